@@ -1,0 +1,8 @@
+//! The trees that lists of tokens spell.
+#![tactic(auto)]
+
+mod parsing;
+mod tokens;
+mod words;
+
+pub use parsing::{ParseError, one_reading, parse};

@@ -1,0 +1,1 @@
+//! What the texts of tokens name and count.
