@@ -5,3 +5,4 @@ pub mod Names
 pub mod Program
 pub mod Rules
 pub mod WellFormed
+pub mod Written
