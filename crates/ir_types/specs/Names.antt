@@ -48,4 +48,4 @@ quoted_text bytes = if is_plain_name bytes then bytes else (34 ∷ bytes ++ 34 �
 abbrev pub name_text : Name → List ℕ
 name_text (Text bytes) = quoted_text bytes
 name_text (Number n) = decimal n
-name_text (MadeName j made) = quoted_text (prefix j ++ parts made)
+name_text (MadeName j made) = prefix j ++ parts made
