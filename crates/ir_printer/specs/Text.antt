@@ -8,6 +8,7 @@ use Rattle.mc_num.specs.declared.op.Width.{Width}
 use Rattle.mc_num.specs.declared.op.Width.TheVariants.{I32}
 use Rattle.ir_types.specs.Names.{name_text}
 use Rattle.ir_types.specs.Program.{Program}
+use Rattle.ir_types.specs.TreeOf.{signed, register_name}
 use Rattle.ir_types.specs.declared.name.Name.{Name}
 use Rattle.ir_types.specs.declared.syntax.Operand.{Operand}
 use Rattle.ir_types.specs.declared.syntax.Operand.TheVariants.{Const, Param, Reg}
@@ -21,10 +22,6 @@ use Rattle.ir_types.specs.declared.syntax.Terminator.TheVariants.{Return}
 use Rattle.ir_types.specs.declared.syntax.Block.{Block}
 use Rattle.ir_types.specs.declared.syntax.Function.{Function}
 
--- a value of a width with a sign
-abbrev pub signed : Width → ℕ → ℤ
-signed w n = if nat_lt n (2 ^ (bits w - 1)) then pos n else negsuc (2 ^ bits w - (n + 1))
-
 -- `%` and a name
 abbrev pub local_text : Name → List ℕ
 local_text name = 37 ∷ name_text name
@@ -37,7 +34,7 @@ variable_text f (Global _) = []
 -- a constant in decimal with its sign, or the name of an instruction's result
 abbrev pub value_text : Block → Operand → List ℕ
 value_text b (Const n) = signed_decimal (signed I32 n)
-value_text b (Reg r) = option_map_or local_text (option_and_then (λ i. i.result) (slice_get b.instrs r)) []
+value_text b (Reg r) = option_map_or local_text (register_name b r) []
 value_text b (Param _) = []
 
 abbrev pub result_text : Option Name → List ℕ

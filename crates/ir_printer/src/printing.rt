@@ -2,7 +2,8 @@
 ghost use Rattle.std.specs.Prelude.{◌≡◌, ◌++◌, [], ◌∷◌, IfOk, OnOk, Some};
 ghost use Rattle.std.specs.List.{flat_map};
 ghost use Rattle.ir_types.specs.FirstForm.{IsFirstModule, IsFirstMain};
-ghost use Rattle.ir_printer.specs.Text.{signed, local_text, variable_text, value_text, result_text, operands_text, kind_text, alloca_line, instr_line, term_line, main_text, text_of};
+ghost use Rattle.ir_types.specs.TreeOf.{signed};
+ghost use Rattle.ir_printer.specs.Text.{local_text, variable_text, value_text, result_text, operands_text, kind_text, alloca_line, instr_line, term_line, main_text, text_of};
 ghost use Rattle.mc_num.specs.declared.op.Width.TheVariants.{I32};
 ghost use Rattle.ir_types.specs.declared.syntax.Operand.TheVariants.{Reg};
 

@@ -4,5 +4,6 @@ pub mod ModuleOf
 pub mod Names
 pub mod Program
 pub mod Rules
+pub mod TreeOf
 pub mod WellFormed
 pub mod Written
