@@ -1,3 +1,4 @@
 pub mod Lexeme
 pub mod Pieces
+pub mod Texts
 pub mod Tokens

@@ -1,5 +1,5 @@
 -- What stands at the front of a text: the longest token, or bytes that belong to none.
-use Rattle.std.specs.Prelude.{◌≡◌, ◌<◌, ◌≤◌, ℕ, ◌+◌, ◌==◌, ◌&&◌, ◌||◌, nat_eq, nat_lt, not, Bool, true, false, List, [], ◌∷◌, length, take, drop, if◌then◌else◌, codes}
+use Rattle.std.specs.Prelude.{◌<◌, ◌≤◌, ℕ, ◌+◌, ◌==◌, ◌&&◌, ◌||◌, nat_eq, nat_lt, not, Bool, List, [], ◌∷◌, length, take, drop, if◌then◌else◌, codes}
 use Rattle.std.specs.List.{prefix_len, list_all, list_any, starts_with}
 use Rattle.ir_types.specs.Bytes.{heads, is_one_of, is_blank, is_digit, is_name_byte, is_quotable}
 use Rattle.ir_lexer.specs.declared.token.TokenKind.{TokenKind}
@@ -47,10 +47,10 @@ is_dropped bytes = heads (λ b. b == 33) bytes || list_any (leads bytes) dropped
 -- behind % or @: digits, or a plain name, or a quoted name
 unfoldable pub name_piece : TokenKind → List ℕ → Piece
 name_piece kind bytes =
-  if heads is_digit bytes then Spelled kind (1 + prefix_len is_digit bytes)
-  else (if heads is_name_byte bytes then Spelled kind (1 + prefix_len is_name_byte bytes)
-  else (if nat_lt 0 (quoted_len bytes) then Spelled kind (1 + quoted_len bytes)
-  else Bad))
+    if heads is_digit bytes then Spelled kind (1 + prefix_len is_digit bytes)
+    else (if heads is_name_byte bytes then Spelled kind (1 + prefix_len is_name_byte bytes)
+    else (if nat_lt 0 (quoted_len bytes) then Spelled kind (1 + quoted_len bytes)
+    else Bad))
 
 -- behind # or !: name bytes
 unfoldable pub sign_piece : TokenKind → List ℕ → Piece
@@ -63,24 +63,24 @@ quoted_piece bytes n = if nat_lt 0 n && heads (λ b. b == 58) (drop n bytes) the
 -- n name bytes: a label where a colon follows
 unfoldable pub run_piece : List ℕ → ℕ → Piece
 run_piece bytes n =
-  if heads (λ b. b == 58) (drop n bytes) then Spelled Label (1 + n)
-  else (if is_number (take n bytes) then Spelled Number n
-  else Spelled Word n)
+    if heads (λ b. b == 58) (drop n bytes) then Spelled Label (1 + n)
+    else (if is_number (take n bytes) then Spelled Number n
+    else Spelled Word n)
 
 -- `fresh` where only blanks stand before on the line
 unfoldable pub piece_of : Bool → List ℕ → Piece
 piece_of fresh [] = Bad
 piece_of fresh (b ∷ bs) =
-  if is_blank b then Gap 1
-  else (if (fresh && is_dropped (b ∷ bs)) || b == 59 then Gap (prefix_len is_in_line (b ∷ bs))
-  else (if b == 37 then name_piece Local bs
-  else (if b == 64 then name_piece Global bs
-  else (if b == 35 then sign_piece Hash bs
-  else (if b == 33 then sign_piece Bang bs
-  else (if b == 34 then quoted_piece (b ∷ bs) (quoted_len (b ∷ bs))
-  else (if is_name_byte b then run_piece (b ∷ bs) (prefix_len is_name_byte (b ∷ bs))
-  else (if is_mark b then Spelled Punct 1
-  else Bad))))))))
+    if is_blank b then Gap 1
+    else (if (fresh && is_dropped (b ∷ bs)) || b == 59 then Gap (prefix_len is_in_line (b ∷ bs))
+    else (if b == 37 then name_piece Local bs
+    else (if b == 64 then name_piece Global bs
+    else (if b == 35 then sign_piece Hash bs
+    else (if b == 33 then sign_piece Bang bs
+    else (if b == 34 then quoted_piece (b ∷ bs) (quoted_len (b ∷ bs))
+    else (if is_name_byte b then run_piece (b ∷ bs) (prefix_len is_name_byte (b ∷ bs))
+    else (if is_mark b then Spelled Punct 1
+    else Bad))))))))
 
 -- a piece has a byte, and is within the bytes
 abbrev pub IsSized : Piece → List ℕ → Type 0

@@ -1,10 +1,9 @@
 -- The tokens of a text, with the places where they stand.
-use Rattle.std.specs.Prelude.{◌≡◌, ◌≤◌, ℕ, zero, suc, ◌+◌, ◌-◌, ◌==◌, ◌&&◌, ◌||◌, Bool, true, List, [], ◌∷◌, length, take, drop, map, All, Result, Ok, Err, if◌then◌else◌}
+use Rattle.std.specs.Prelude.{◌≡◌, ◌<◌, ◌≤◌, ℕ, zero, suc, ◌+◌, ◌-◌, ◌==◌, ◌&&◌, ◌||◌, true, List, [], ◌∷◌, length, take, drop, map, Result, Ok, Err, if◌then◌else◌}
 use Rattle.ir_types.specs.Bytes.{is_blank}
 use Rattle.ir_types.specs.declared.span.Span.{Span}
 use Rattle.ir_lexer.specs.Lexeme.{Lexeme, lexeme}
 use Rattle.ir_lexer.specs.declared.token.Token.{Token}
-use Rattle.ir_lexer.specs.declared.token.TokenKind.{TokenKind}
 use Rattle.ir_lexer.specs.declared.lexing.Place.{Place}
 use Rattle.ir_lexer.specs.declared.lexing.LexError.{LexError}
 use Rattle.ir_lexer.specs.declared.lexing.LexError.TheVariants.{BadByte, NoMemory}
@@ -45,6 +44,10 @@ with_first t (Err wrong) = Err wrong
 abbrev pub span_of : Place → ℕ → Span
 span_of here n = record { line = here.line; start = here.offset; end = here.offset + n }
 
+-- the empty span at the end of a text
+abbrev pub end_of : List ℕ → Span
+end_of bytes = span_of (past bytes start) 0
+
 -- the token, where there is one, and what goes on behind so many bytes
 abbrev pub on_piece : Piece → Place → ℕ → List ℕ → (ℕ → Lexing) → Lexing
 on_piece (Gap n) here b bytes go = go n
@@ -70,3 +73,8 @@ GivesTokens view (Err (BadByte span byte)) lexing = lexing ≡ Err (record { spa
 -- a token's text is the text's slice at its span
 abbrev pub IsSliceOf : List ℕ → Lexeme → Type 0
 IsSliceOf source t = (t.span.end ≤ length source) × (t.text ≡ take (t.span.end - t.span.start) (drop t.span.start source))
+
+-- each token begins at this offset or later, and behind the one before it
+abbrev pub IsOrderedFrom : ℕ → List Lexeme → Type 0
+IsOrderedFrom offset [] = Unit {0}
+IsOrderedFrom offset (t ∷ ts) = (offset ≤ t.span.start) × (t.span.start < t.span.end) × IsOrderedFrom t.span.end ts

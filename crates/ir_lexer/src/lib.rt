@@ -1,9 +1,14 @@
 //! The tokens of a source text.
 #![tactic(auto)]
 
+mod laws;
 mod lexing;
 mod pieces;
 mod token;
 
+pub use laws::lexes_back;
 pub use lexing::{LexError, end_of, lex};
 pub use token::{Token, TokenKind};
+
+#[cfg(test)]
+mod tests;

@@ -3,7 +3,7 @@
 --   instr = LOCAL "=" ( "alloca" "i32" | "load" "i32" "," "ptr" LOCAL | "add" "i32" value "," value )
 --         | "store" "i32" value "," "ptr" LOCAL
 --   value = LOCAL | NUMBER
-use Rattle.std.specs.Prelude.{◌≡◌, ℕ, Bool, true, false, ◌&&◌, ◌==◌, List, [], ◌∷◌, Option, Some, None, codes, option_map}
+use Rattle.std.specs.Prelude.{ℕ, Bool, ◌&&◌, ◌==◌, List, [], ◌∷◌, Option, Some, None, codes, option_map}
 use Rattle.std.specs.Str.{bytes_eq}
 use Rattle.mc_num.specs.declared.op.Width.TheVariants.{I32}
 use Rattle.mc_num.specs.declared.op.Bin.TheVariants.{Add}
@@ -56,7 +56,6 @@ infixr 30 ◌~◌
 infixr 30 ◌▸◌
 infixr 30 ◌◂◌
 infixr 20 ◌∣◌
-
 -- both, of which the tree is a pair, or only one tree; and the first that the next token begins
 abbrev pub ◌~◌ : {A B : Type 0} → G A → G B → G (A × B)
 g ~ h = pair g h
@@ -115,8 +114,8 @@ with_result result x = record { result = result; word = x.0; kind = x.1 }
 
 unfoldable pub instr : G RawInstr
 instr =
-  gives (λ x. with_result (Some (at (local_name x.0.text) x.0)) x.1) (a kinds.Local ~ mark (codes "=") ▸ giving)
-  ∣ gives (λ x. with_result None x) store
+    gives (λ x. with_result (Some (at (local_name x.0.text) x.0)) x.1) (a kinds.Local ~ mark (codes "=") ▸ giving)
+    ∣ gives (λ x. with_result None x) store
 
 unfoldable pub instrs : G (List RawInstr)
 instrs = repeated instr
@@ -126,7 +125,7 @@ label = gives (λ x. option_map (λ t. at (label_name t.text) t) x) (optional (a
 
 unfoldable pub block : G RawBlock
 block = gives (λ x. record { label = x.0; instrs = x.1.0; term = terms.Return (Some (I32, x.1.1.1)); term_word = x.1.1.0.span })
-  (label ~ instrs ~ word (codes "ret") ~ word (codes "i32") ▸ value)
+    (label ~ instrs ~ word (codes "ret") ~ word (codes "i32") ▸ value)
 
 -- the tree of a function `main` of one block
 abbrev pub main_tree : Lexeme → RawBlock → Raw
@@ -137,5 +136,5 @@ main_tree main b = record {
 
 unfoldable pub first_form : G Raw
 first_form = gives (λ x. main_tree x.0 x.1)
-  (word (codes "define") ▸ word (codes "i32") ▸ token (is_global (codes "main"))
+    (word (codes "define") ▸ word (codes "i32") ▸ token (is_global (codes "main"))
     ~ mark (codes "(") ▸ mark (codes ")") ▸ mark (codes "{") ▸ block ◂ mark (codes "}"))

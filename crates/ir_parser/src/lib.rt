@@ -2,7 +2,8 @@
 #![tactic(auto)]
 
 mod parsing;
+mod reading;
 mod tokens;
 mod words;
 
-pub use parsing::{ParseError, one_reading, parse};
+pub use parsing::{ParseError, one_reading, parse, spelled_trees};

@@ -1,0 +1,7 @@
+mod Names
+mod Scripts
+mod Lines
+mod Parted
+mod Spelled
+mod Facts
+mod Trees

@@ -1,0 +1,2 @@
+//! Texts of the first form, read and read back.
+#![tactic(auto)]

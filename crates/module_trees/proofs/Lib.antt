@@ -1,0 +1,14 @@
+mod Names
+mod Spelling
+mod Ready
+mod Uses
+mod Allocas
+mod Forms
+mod Others
+mod Known
+mod Fitting
+mod Limits
+mod Main
+mod Sound
+mod Named
+mod Whole

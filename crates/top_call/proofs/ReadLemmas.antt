@@ -1,0 +1,25 @@
+-- What the first bytes of a file say of it.
+use Rattle.std.proofs.Common.{◌≡◌, ℕ, ◌+◌, ◌<◌, ◌≤◌, min, List, take, length, Some, IsTrue, sym, ◌∙◌, ap, arith}
+use Rattle.std.proofs.lemmas.List.{length-take, take_all}
+use Rattle.mc_host.specs.Host.{HostState, GivesFile}
+use Rattle.top_call.specs.declared.ending.Problem.TheVariants.{TooLong}
+use Rattle.top_call.specs.Print.{HasProblem, text_limit}
+
+-- more bytes than a text has, so the file is too long
+pub too_long : (host : HostState) (name bytes : List ℕ) → GivesFile host name text_limit bytes → text_limit < length bytes →
+    IsTrue host.tells → HasProblem host name TooLong
+too_long host name bytes gives long tells =
+    let content = (gives tells).0 in
+    let cut : length bytes ≡ min (text_limit + 1) (length content) =
+    ap (λ xs. length xs) (gives tells).2 ∙ length-take (text_limit + 1) content in
+    (content, (gives tells).1, omega (arith, cut, long))
+
+-- no more bytes than a text has, so this is the whole file
+pub whole : (host : HostState) (name bytes : List ℕ) → GivesFile host name text_limit bytes → length bytes ≤ text_limit →
+    IsTrue host.tells → host.file name ≡ Some bytes
+whole host name bytes gives short tells =
+    let content = (gives tells).0 in
+    let cut : length bytes ≡ min (text_limit + 1) (length content) =
+    ap (λ xs. length xs) (gives tells).2 ∙ length-take (text_limit + 1) content in
+    let all : take (text_limit + 1) content ≡ content = take_all (text_limit + 1) content (omega (arith, cut, short)) in
+    (gives tells).1 ∙ ap (λ xs. Some xs) (sym ((gives tells).2 ∙ all))

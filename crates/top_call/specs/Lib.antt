@@ -1,0 +1,8 @@
+pub mod StandIn
+pub mod Row
+pub mod Command
+pub mod Print
+pub mod Stops
+pub mod Ending
+pub mod Lines
+pub mod Top

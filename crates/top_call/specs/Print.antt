@@ -1,0 +1,64 @@
+-- What `print` makes of a file, and how it may end.
+use Rattle.std.specs.Prelude.{◌≡◌, ◌≢◌, ◌⊎◌, ◌^◌, ◌<◌, ◌≤◌, ℕ, List, length, IsTrue, Some, Ok, Err}
+use Rattle.mc_host.specs.Faults.{Rose}
+use Rattle.mc_host.specs.Host.{HostState, IsBeforeOrPart, KeepsRights}
+use Rattle.top_call.specs.declared.ending.Problem.{Problem}
+use Rattle.top_call.specs.declared.ending.Problem.TheVariants.{TooLong, NotYet, Grown}
+use Rattle.top_call.specs.declared.ending.Stop.TheVariants.{Usage, Refused, ReadFault, WriteFault, OutOfMemory}
+use Rattle.top_call.specs.Ending.{Ending}
+use Rattle.ir_types.specs.Program.{Program}
+use Rattle.ir_printer.specs.Text.{text_of}
+use Rattle.top_call.specs.StandIn.{IsFirstForm}
+
+-- how many bytes a text has at most
+abbrev pub text_limit : ℕ
+text_limit = 2 ^ 26
+
+-- the file reads as this program
+pub record ReadsAs (host : HostState) (input : List ℕ) (program : Program) : Type 0 where
+  pub content : List ℕ
+  pub holds : host.file input ≡ Some content
+  pub short : length content ≤ text_limit
+  pub reads : IsFirstForm content program
+
+-- the file reads as a program whose text is this one, and the text isn't too long
+pub record PrintsAs (host : HostState) (input text : List ℕ) : Type 0 where
+  pub program : Program
+  pub reads : ReadsAs host input program
+  pub is_text : text ≡ text_of program
+  pub fits : length text ≤ text_limit
+
+-- the file has this problem: it is too long, or it isn't of the first form, or its text would be too long
+abbrev pub HasProblem : HostState → List ℕ → Problem → Type 0
+HasProblem host input TooLong = (content : List ℕ) × (host.file input ≡ Some content) × (text_limit < length content)
+HasProblem host input NotYet =
+    (content : List ℕ) × (host.file input ≡ Some content) × (length content ≤ text_limit)
+    × ((program : Program) → ¬ (IsFirstForm content program))
+HasProblem host input Grown = (program : Program) × ReadsAs host input program × (text_limit < length (text_of program))
+
+-- the file that is written is as before, or holds a first part of its text, which may be all of it
+abbrev pub LeavesPart : (input output : List ℕ) → HostState → HostState → Type 0
+LeavesPart input output old new =
+    (new.file output ≡ old.file output)
+    ⊎ ((text : List ℕ) × PrintsAs old input text × IsBeforeOrPart output text old new)
+
+-- the endings of `print`, each with its cause and with what it leaves
+abbrev pub PrintEnds : (input output : List ℕ) → HostState → HostState → Ending → Type 0
+PrintEnds input output old new (Ok _) =
+    IsTrue old.tells → (text : List ℕ) × PrintsAs old input text × (new.file output ≡ Some text)
+PrintEnds input output old new (Err (Refused file problem)) =
+    (file.now ≡ input) × (new.file ≡ old.file) × (IsTrue old.tells → HasProblem old input problem)
+PrintEnds input output old new (Err (ReadFault name)) =
+    (name.now ≡ input) × (new.file ≡ old.file) × Rose old.read_faults new.read_faults
+PrintEnds input output old new (Err (WriteFault name)) =
+    (name.now ≡ output) × Rose old.write_faults new.write_faults
+    × (IsTrue old.tells → (text : List ℕ) × PrintsAs old input text × IsBeforeOrPart output text old new)
+PrintEnds input output old new (Err OutOfMemory) = IsTrue old.tells → LeavesPart input output old new
+PrintEnds input output old new (Err Usage) = ⊥
+
+-- no file changes but the one that is written, and no count falls
+pub record OnlyPrints (output : List ℕ) (old new : HostState) : Type 0 where
+  pub rights : KeepsRights old new
+  pub others : (other : List ℕ) → other ≢ output → new.file other ≡ old.file other
+  pub read_faults : old.read_faults ≤ new.read_faults
+  pub write_faults : old.write_faults ≤ new.write_faults

@@ -1,0 +1,54 @@
+//! How a call ends.
+ghost use Rattle.std.specs.Prelude.{◌≡◌};
+ghost use Rattle.top_call.specs.Ending.{status_of};
+
+/// Why a file is refused.
+#[derive(Clone, Copy, Debug, PartialEq, Eq)]
+pub enum Problem {
+    /// It has more than 2^26 bytes.
+    TooLong,
+    /// It isn't of the first form.
+    NotYet,
+    /// The text for the file that is written would have more than 2^26 bytes.
+    Grown,
+}
+
+/// Why a call stopped before it was done.
+#[derive(Clone, Copy, Debug, PartialEq, Eq)]
+pub enum Stop<'a> {
+    /// The words fit no row.
+    Usage,
+    /// A file that was read has a problem.
+    Refused {
+        /// The file's name.
+        file: &'a str,
+        /// What is wrong with it.
+        problem: Problem,
+    },
+    /// A file could not be read.
+    ReadFault {
+        /// The file's name.
+        name: &'a str,
+    },
+    /// A file could not be written.
+    WriteFault {
+        /// The file's name.
+        name: &'a str,
+    },
+    /// An allocation was refused.
+    OutOfMemory,
+}
+
+/// The status of the process.
+pub(crate) fn status_of(ending: &Result<(), Stop<'_>>) -> u8
+    ensures { result ≡ status_of ending.now }
+{
+    match ending {
+        Ok(()) => 0,
+        Err(Stop::Refused { .. }) => 1,
+        Err(Stop::Usage) => 2,
+        Err(Stop::ReadFault { .. }) => 3,
+        Err(Stop::WriteFault { .. }) => 4,
+        Err(Stop::OutOfMemory) => 5,
+    }
+}
