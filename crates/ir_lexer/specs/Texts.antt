@@ -78,7 +78,7 @@ IsKept Bang text = ⊥
 IsKept Word text = IsFalse (is_dropped_word text)
 IsKept _ text = Unit {0}
 
--- what follows doesn't go on with the token
+-- what follows doesn't go on with the token; quoted names need less than this
 abbrev pub Ends : TokenKind → List ℕ → Type 0
 Ends Punct more = Unit {0}
 Ends Label more = Unit {0}

@@ -11,7 +11,9 @@ pub enum TokenKind {
     Global,
     /// A name and `:`.
     Label,
+    /// Digits, which a minus sign may precede.
     Number,
+    /// Any other run of name bytes.
     Word,
     /// `#` and name bytes.
     Hash,

@@ -148,7 +148,7 @@ fn instr<'a>(tokens: &[Token<'a>], at: usize) -> Result<(RawInstr<'a>, usize), S
     ))
 }
 
-/// The next token begins an instruction.
+/// Whether the next token begins an instruction.
 #[tactic(auto, unfolding(crate::specs::FirstForm::instr, crate::specs::FirstForm::store))]
 fn is_instr_next(tokens: &[Token], at: usize) -> bool
     ensures { result ≡ is_next instr (map lexeme (drop at tokens.now)) }

@@ -59,14 +59,14 @@ fn is_global(token: &Token, name: &[u8]) -> bool
     token.kind == TokenKind::Global && global_name(token.text).bytes() == name
 }
 
-/// The token there is of this kind.
+/// Whether the token at an index is of this kind.
 pub fn is_kind_next(tokens: &[Token], at: usize, kind: TokenKind) -> bool
     ensures { result ≡ heads (is_kind kind) (map lexeme (drop at tokens.now)) }
 {
     at < tokens.len() && is_kind(&tokens[at], kind)
 }
 
-/// The token there is this word or mark.
+/// Whether the token at an index is this word or mark.
 pub fn is_next(tokens: &[Token], at: usize, kind: TokenKind, text: &[u8]) -> bool
     ensures { result ≡ heads (is_spelled kind text.now) (map lexeme (drop at tokens.now)) }
 {

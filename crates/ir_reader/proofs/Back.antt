@@ -29,7 +29,7 @@ use Rattle.ir_lexer.specs.Texts.{Inked, IsText, IsParted, LexesBack, text_of as 
 use Rattle.ir_lexer.specs.Tokens.{Lexing, tokens_of}
 use Rattle.ir_lexer.specs.declared.token.TokenKind.TheVariants as kinds
 use Rattle.ir_printer.specs.Text.{local_text, variable_text, value_text, main_text, text_of}
-use Rattle.module_trees.specs.MeansModule.{MeansModule}
+use Rattle.module_trees.specs.Meant.{MeansModule}
 use Rattle.ir_reader.specs.Reading.{IsFirstForm, ReadsBack}
 use Rattle.ir_reader.proofs.Names.{number_is}
 use Rattle.ir_reader.proofs.Scripts.{ValueText, Named, Counted, KindText, Alloca, Load, Store, Add, LineText, script}

@@ -5,3 +5,5 @@ mod Parted
 mod Spelled
 mod Facts
 mod Trees
+mod Back
+mod One

@@ -1,5 +1,7 @@
 -- What it is for a text to be of the first form, and to read back.
-use Rattle.std.specs.Prelude.{◌≡◌, ℕ, List, None, Ok}
+use Rattle.std.specs.Prelude.{◌≡◌, ℕ, List, None, Result, Ok, Err}
+use Rattle.ir_reader.specs.declared.reading.ReadError.{ReadError}
+use Rattle.ir_reader.specs.declared.reading.ReadError.TheVariants.{NotYet, NoMemory}
 use Rattle.ir_types.specs.Program.{Program}
 use Rattle.ir_types.specs.FirstForm.{plain}
 use Rattle.ir_types.specs.Rules.{tree_problem}
@@ -26,3 +28,9 @@ pub record ReadsBack (m : Program) : Type 0 where
   pub again : Program
   pub reads : IsFirstForm (text_of m) again
   pub same : again ≡ plain m
+
+-- the answer of reading a text that means this module: the module, unless memory ran out
+abbrev pub IsReadAs : Program → Result Program ReadError → Type 0
+IsReadAs m (Ok n) = n ≡ m
+IsReadAs m (Err NoMemory) = Unit {0}
+IsReadAs m (Err NotYet) = ⊥

@@ -1,2 +1,8 @@
-//! Texts of the first form, read and read back.
+//! Texts of the first form: read as modules, and read back from what is printed.
 #![tactic(auto)]
+
+mod laws;
+mod reading;
+
+pub use laws::{one_module, reads_back};
+pub use reading::{ReadError, read};

@@ -20,6 +20,7 @@ use Rattle.ir_types.specs.declared.syntax.Instr.{Instr}
 use Rattle.ir_types.specs.declared.tree.RawInstr.{RawInstr}
 use Rattle.ir_types.specs.declared.tree.RawKind.{RawKind}
 use Rattle.ir_types.specs.declared.tree.RawKind.TheVariants as forms
+use Rattle.module_trees.proofs.Problems.{then_none}
 use Rattle.module_trees.proofs.Ready.{IsReady, IsDefined, defined}
 
 -- what the names of variables mean, counted from this number
@@ -39,9 +40,6 @@ record IsPassed (r : Reached) (v : Width × Name) (ns : List Name) (x : RawInstr
 
 not_late : (n : ℕ) (s : Span) → n ≡ 0 → broken rule.LateAlloca s (not (n == 0)) ≡ None
 not_late n s e = rw e refl
-
-then_none : (p q : Option Problem) → p ≡ None → q ≡ None → (p >> q) ≡ None
-then_none p q e f = λ i. e i >> f i
 
 alloca_passed : (r : Reached) (v : Width × Name) (ns : List Name) (written : Option (At Name)) (word : Span)
     → r.instrs ≡ 0 → IsReady r.before (v.1 ∷ ns) → IsTreeResult (Some v.1) written → IsPassed r v ns (record { result = written; word = word; kind = forms.Alloca I32 })

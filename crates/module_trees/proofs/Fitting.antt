@@ -1,7 +1,7 @@
 -- The rules of a module say what fits in a block of the first form.
 use Rattle.std.proofs.Common.{◌≡◌, ◌<◌, ◌≤◌, ◌+◌, ◌↔◌, ℕ, zero, suc, true, false, List, [], ◌∷◌, Option, None, Some, length, take, slice_get, IsSome, IsSomeAnd, All, refl, subst, length-take, arith}
 use Rattle.std.specs.List.{AllZip, AllByRecursion}
-use Rattle.std.proofs.lemmas.Option.{get_or_from_slice_get, slice_get_within, option_and_then_some}
+use Rattle.std.proofs.lemmas.Option.{slice_get_within, option_and_then_some}
 use Rattle.mc_num.specs.declared.op.Width.{Width}
 use Rattle.mc_num.specs.declared.op.Width.TheVariants.{I32}
 use Rattle.mc_num.specs.declared.op.Bin.TheVariants.{Add}
@@ -17,11 +17,9 @@ use Rattle.ir_types.specs.declared.syntax.Kind.TheVariants.{Load, Store, Compute
 use Rattle.ir_types.specs.declared.syntax.Operand.{Operand}
 use Rattle.ir_types.specs.declared.syntax.Operand.TheVariants.{Const, Param, Reg}
 use Rattle.ir_types.specs.declared.syntax.Variable.TheVariants.{Local, Global}
+use Rattle.module_trees.proofs.Lists.{at_place}
 use Rattle.module_trees.proofs.Uses.{IsUse}
 use Rattle.module_trees.proofs.Others.{IsFitting, AreFitting}
-
-pub at_place : {X : Type 0} (P : X → Type 0) (xs : List X) → All P xs → (j : ℕ) (x : X) → slice_get xs j ≡ Some x → P x
-at_place P xs h j x e = subst P (get_or_from_slice_get xs j x x e) (h j x (slice_get_within xs j x e))
 
 -- a variable of i32 has the width of i32
 pub at_i32 : (xs : List (Width × Name)) (v : ℕ) (P : Width → Type 0) → AllByRecursion (λ x. x.0 ≡ I32) xs → IsSomeAnd (slice_get (widths xs) v) P → P I32

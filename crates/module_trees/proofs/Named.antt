@@ -13,7 +13,7 @@ use Rattle.ir_types.specs.declared.syntax.Function.{Function}
 use Rattle.ir_types.specs.declared.syntax.Instr.{Instr}
 use Rattle.ir_types.specs.declared.tree.RawBlock.{RawBlock}
 use Rattle.ir_types.specs.declared.tree.RawInstr.{RawInstr}
-use Rattle.module_trees.proofs.Main.{IsSoundBlock}
+use Rattle.module_trees.proofs.Blocks.{IsSoundBlock}
 use Rattle.module_trees.proofs.Spelling.{is_written}
 
 definable : (n : Name) (written : Option (At Name)) → IsSpellable n → IsTreeResult (Some n) written → IsDefinable written

@@ -9,12 +9,11 @@ use Rattle.mc_num.specs.declared.op.Op.TheVariants.{Bin}
 use Rattle.ir_types.specs.FirstForm.{plain_instr, IsFirstKind}
 use Rattle.ir_types.specs.ModuleOf.{var_of, instr_of, vars_from, instrs_from}
 use Rattle.ir_types.specs.Names.{spelled}
-use Rattle.ir_types.specs.Rules.{Defined, Reached, ◌>>◌, instr_problem, instrs_problem, after_instr, after_instrs}
+use Rattle.ir_types.specs.Rules.{Defined, Reached, instr_problem, instrs_problem, after_instr, after_instrs}
 use Rattle.ir_types.specs.TreeOf.{IsTreeInstr, IsTreeResult, IsTreeValue, IsTreeAddress}
 use Rattle.ir_types.specs.declared.name.Name.{Name}
 use Rattle.ir_types.specs.declared.rules.Meaning.{Meaning}
 use Rattle.ir_types.specs.declared.rules.Meaning.TheVariants.{Register}
-use Rattle.ir_types.specs.declared.rules.Problem.{Problem}
 use Rattle.ir_types.specs.declared.span.At.{At}
 use Rattle.ir_types.specs.declared.span.Span.{Span}
 use Rattle.ir_types.specs.declared.syntax.Block.{Block}
@@ -29,6 +28,7 @@ use Rattle.ir_types.specs.declared.tree.RawInstr.{RawInstr}
 use Rattle.ir_types.specs.declared.tree.RawKind.{RawKind}
 use Rattle.ir_types.specs.declared.tree.RawKind.TheVariants as forms
 use Rattle.ir_types.specs.declared.tree.RawValue.{RawValue}
+use Rattle.module_trees.proofs.Problems.{then_none}
 use Rattle.module_trees.proofs.Ready.{IsReady, IsDefined, defined}
 use Rattle.module_trees.proofs.Uses.{Knows, IsUse, value_meant, address_meant}
 use Rattle.module_trees.proofs.Forms.{HoldsOfForms, of_each}
@@ -71,9 +71,6 @@ module _ (f : Function) (b : Block) where
       → IsFitting r.instrs k result → IsReady r.before (cons_option result ns) → IsTreeResult result written
       → IsPassed r (record { result = result; kind = k }) ns (record { result = written; word = word; kind = x })
 
-  two_fine : (p q : Option Problem) → p ≡ None → q ≡ None → (p >> q) ≡ None
-  two_fine p q e g = λ i. e i >> g i
-
   load_passes : (r : Reached) (ns : List Name) (v : Variable) (a : At Address) → IsTreeAddress f v a → Passes r ns (Load v) (forms.Load I32 a)
   unfolding Passes
   load_passes r ns v a t None written word fits ready e = let named : false ≡ true = fits in cc
@@ -85,7 +82,7 @@ module _ (f : Function) (b : Block) where
         meanings = step.meanings;
         ready = step.ready;
         var = refl;
-        problem = λ locals known. two_fine _ _ step.problem (address_meant locals f b known r.instrs v a t).problem;
+        problem = λ locals known. then_none _ _ step.problem (address_meant locals f b known r.instrs v a t).problem;
         means = λ locals known. λ i. Some (record { result = Some (e i); kind = Load ((address_meant locals f b known r.instrs v a t).means i) });
       }
 
@@ -99,7 +96,7 @@ module _ (f : Function) (b : Block) where
     meanings = sym (append-nil r.before.meanings);
     ready = ready;
     var = refl;
-    problem = λ locals known. two_fine _ _ (value_meant locals f b known r.instrs o value fits.1 t).problem (address_meant locals f b known r.instrs v a u).problem;
+    problem = λ locals known. then_none _ _ (value_meant locals f b known r.instrs o value fits.1 t).problem (address_meant locals f b known r.instrs v a u).problem;
     means = λ locals known. λ i. Some (record {
       result = None;
       kind = Store ((value_meant locals f b known r.instrs o value fits.1 t).means i) ((address_meant locals f b known r.instrs v a u).means i);
@@ -119,8 +116,8 @@ module _ (f : Function) (b : Block) where
         ready = step.ready;
         var = refl;
         problem = λ locals known.
-            two_fine _ _ step.problem
-            (two_fine _ _ (value_meant locals f b known r.instrs one left fits.1 t).problem (value_meant locals f b known r.instrs other right fits.2 u).problem);
+            then_none _ _ step.problem
+            (then_none _ _ (value_meant locals f b known r.instrs one left fits.1 t).problem (value_meant locals f b known r.instrs other right fits.2 u).problem);
         means = λ locals known. λ i. Some (record {
           result = Some (e i);
           kind = Compute (Bin Add I32)
@@ -176,7 +173,7 @@ module _ (f : Function) (b : Block) where
             ∙ register_first r.instrs i.result r.before.meanings (registers_from (r.instrs + 1) is)));
         ready = more.ready;
         vars_are = ap (λ (o : Option (Width × Name)). option_to_list o ++ vars_from next xs) step.var ∙ more.vars_are;
-        problem = λ locals known. two_fine _ _ (step.problem locals known) (more.problem locals known);
+        problem = λ locals known. then_none _ _ (step.problem locals known) (more.problem locals known);
         means = λ locals known.
             ap (λ (o : Option Instr). option_to_list o ++ instrs_from locals next xs) (step.means locals known)
             ∙ ap (λ (tail : List Instr). plain_instr i ∷ tail) (more.means locals known);

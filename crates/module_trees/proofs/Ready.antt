@@ -1,20 +1,21 @@
 -- A definition of the next name adds it, and breaks no rule.
-use Rattle.std.proofs.Common.{◌≡◌, ◌+◌, ◌-◌, ◌^◌, ◌++◌, min, Bool, false, List, [], ◌∷◌, Option, None, Some, is_some, if◌then◌else◌, map, refl, sym, ap, subst, ◌∙◌, append_assoc, arith}
+use Rattle.std.proofs.Common.{◌≡◌, ◌+◌, ◌-◌, ◌^◌, ◌++◌, min, false, List, [], ◌∷◌, Option, None, Some, is_some, if◌then◌else◌, map, refl, sym, ap, subst, ◌∙◌, append_assoc, arith}
 use Rattle.std.specs.List.{IsDistinct, AllByRecursion}
 use Rattle.std.specs.Map.{lookup, keys_of}
 use Rattle.std.proofs.lemmas.List.{map_push}
 use Rattle.std.proofs.lemmas.Map.Entries.{lookup_tail}
 use Rattle.std.proofs.lemmas.Bool.Decides.{nat_tests}
 use Rattle.ir_types.specs.Names.{spelled, IsSpellable}
-use Rattle.ir_types.specs.Rules.{Defined, same_name, define, name_problem, broken, ◌>>◌, is_other_number, with_meaning}
+use Rattle.ir_types.specs.Rules.{Defined, same_name, define, name_problem, is_other_number, with_meaning}
 use Rattle.ir_types.specs.WellFormed.{CountFrom}
 use Rattle.ir_types.specs.declared.name.Name.{Name}
 use Rattle.ir_types.specs.declared.name.Name.TheVariants.{Text, Number, Made}
 use Rattle.ir_types.specs.declared.rules.Meaning.{Meaning}
-use Rattle.ir_types.specs.declared.rules.Rule.{Rule}
+use Rattle.ir_types.specs.declared.rules.Rule.TheVariants as rule
 use Rattle.ir_types.specs.declared.span.At.{At}
 use Rattle.ir_types.specs.declared.span.Span.{Span}
 use Rattle.module_trees.proofs.Names.{name_equivalence}
+use Rattle.module_trees.proofs.Problems.{then_none, unbroken}
 
 -- the names that are still to come differ from those that are there, and count on
 pub record IsReady (d : Defined) (ns : List Name) : Type 0 where
@@ -46,9 +47,6 @@ moved es x m xs = sym (ap (λ ks. ks ++ xs) (map_push (λ (e : Name × Meaning).
 new_meaning : (es : List (Name × Meaning)) (x : Name) (m : Meaning) → lookup (same_name x) es ≡ None → with_meaning es x m ≡ es ++ (x, m) ∷ []
 new_meaning es x m h = ap (λ (r : Option Meaning). if is_some r then es else (es ++ (x, m) ∷ [])) h
 
-two_parts : (r q : Rule) (s : Span) (a b : Bool) → a ≡ false → b ≡ false → (broken r s a >> broken q s b) ≡ None
-two_parts r q s a b e f = λ i. broken r s (e i) >> broken q s (f i)
-
 is_next : (d : Defined) (n : Name) (ns : List Name) → CountFrom d.next (n ∷ ns) → is_other_number d (spelled n) ≡ false
 is_next d (Text bytes) ns h = refl
 is_next d (Made j x) ns h = refl
@@ -67,7 +65,7 @@ defined_here d n ns m s h =
     let free : lookup (same_name (spelled n)) d.meanings ≡ None = absent d.meanings (spelled n) (map spelled ns) h.differ in
     let found : with_meaning d.meanings (spelled n) m ≡ d.meanings ++ (spelled n, m) ∷ [] = new_meaning d.meanings (spelled n) m free in
     record {
-      problem = two_parts _ _ s _ _ (ap is_some free) (is_next d n ns h.counts);
+      problem = then_none _ _ (unbroken rule.Duplicate s _ (ap is_some free)) (unbroken rule.BadNumber s _ (is_next d n ns h.counts));
       meanings = found;
       ready = record {
         differ = subst (λ es. IsDistinct same_name (keys_of es ++ map spelled ns)) (sym found) (subst (IsDistinct same_name) (moved d.meanings (spelled n) m (map spelled ns)) h.differ);

@@ -1,5 +1,5 @@
 -- What the rules of a module say of the block of a function of the first form.
-use Rattle.std.proofs.Common.{◌≡◌, ◌≢◌, ◌++◌, List, [], ◌∷◌, Option, Some, length, map, IsSomeAnd, All, ap, subst, ◌∙◌, append-nil, arith}
+use Rattle.std.proofs.Common.{◌≡◌, ◌≢◌, ◌++◌, List, ◌∷◌, Option, Some, length, map, IsSomeAnd, All, ap, subst, ◌∙◌, append-nil, arith}
 use Rattle.std.specs.Prelude.{AllPairs}
 use Rattle.std.specs.List.{AllByRecursion, filter_map}
 use Rattle.std.proofs.lemmas.List.Elements.{recursion_from_All}
@@ -16,7 +16,8 @@ use Rattle.ir_types.specs.declared.syntax.Function.{Function}
 use Rattle.ir_types.specs.declared.syntax.Instr.{Instr}
 use Rattle.ir_types.specs.declared.syntax.Terminator.TheVariants.{Return}
 use Rattle.module_trees.proofs.Fitting.{at_i32, fitting, used}
-use Rattle.module_trees.proofs.Main.{IsSoundBlock}
+use Rattle.module_trees.proofs.Blocks.{IsSoundBlock}
+use Rattle.module_trees.proofs.Lists.{only_one}
 use Rattle.module_trees.proofs.Names.{decided}
 use Rattle.module_trees.proofs.Ready.{IsReady}
 
@@ -26,9 +27,6 @@ ready_from ns differ counts spellable = record {
   counts = counts;
   spellable = recursion_from_All IsSpellable ns spellable;
 }
-
-pub only_one : {X : Type 0} (P : X → Type 0) (x : X) (xs : List X) → xs ≡ x ∷ [] → All P xs → P x
-only_one P x xs e h = (subst (All P) e h) 0 x (omega arith)
 
 module _ (m : Program) (f : Function) (rules_of : IsFunctionIn m f) (first : IsFirstMain f) where
   names_are : names f ≡ first.entry.name ∷ (map (λ v. v.1) f.vars ++ filter_map (λ i. i.result) first.entry.instrs)

@@ -23,6 +23,7 @@ use Rattle.ir_types.specs.declared.tree.Address.{Address}
 use Rattle.ir_types.specs.declared.tree.Address.TheVariants as addresses
 use Rattle.ir_types.specs.declared.tree.RawValue.{RawValue}
 use Rattle.ir_types.specs.declared.tree.RawValue.TheVariants as values
+use Rattle.module_trees.proofs.Problems.{unbroken}
 
 -- the names of a function's variables and of a block's results mean these
 pub record Knows (locals : Defined) (f : Function) (b : Block) : Type 0 where
@@ -51,12 +52,9 @@ and_back : (n : ℕ) → n < 4294967296 → (b : Bool) → constant I32 (if b th
 and_back n h true = refl
 and_back n h false = omega arith
 
-fine : (s : Span) (b : Bool) → b ≡ true → broken rule.ConstantRange s (not b) ≡ None
-fine s b e = ap (λ t. broken rule.ConstantRange s (not t)) e
-
 number_meant : (locals : Defined) (here n : ℕ) (s : Span) → n < 4294967296 → IsMeantValue locals here (Const n) (record { item = values.Number (signed I32 n); span = s })
 number_meant locals here n s h = record {
-  problem = fine s (is_in_range I32 (signed I32 n)) (in_range n h (nat_lt n 2147483648) refl);
+  problem = unbroken rule.ConstantRange s _ (ap not (in_range n h (nat_lt n 2147483648) refl));
   means = ap Const (and_back n h (nat_lt n 2147483648));
 }
 

@@ -1,19 +1,16 @@
 -- The tree of a module of the first form.
-use Rattle.std.proofs.Common.{◌≡◌, ◌≤◌, ◌^◌, ◌&&◌, not, Bool, true, false, List, [], ◌∷◌, Option, None, length, map, All, refl, sym, ap, subst, ◌∙◌, append-nil, codes, arith}
+use Rattle.std.proofs.Common.{◌≡◌, ◌≤◌, ◌^◌, ◌&&◌, not, true, false, [], ◌∷◌, None, length, map, All, sym, ap, subst, ◌∙◌, append-nil, codes, arith}
 use Rattle.std.specs.List.{AllZip, sum_by, flat_map}
 use Rattle.std.specs.Str.{bytes_eq}
 use Rattle.std.proofs.lemmas.List.Elements.{recursion_from_All, All-from_recursion}
 use Rattle.ir_types.specs.FirstForm.{IsFirstMain, IsFirstModule, IsFirstKind, IsWithinLimits, plain_block, plain_function, plain_names}
 use Rattle.ir_types.specs.ModuleOf.{function_of, block_of, vars_from}
 use Rattle.ir_types.specs.Program.{Program}
-use Rattle.ir_types.specs.Rules.{broken, ◌>>◌, at_start, is_above_limits, blocks_problem, is_main, is_i32_type, is_nil, function_problem, functions_problem, start_of_text}
+use Rattle.ir_types.specs.Rules.{at_start, is_above_limits, blocks_problem, is_main, is_i32_type, is_nil, function_problem, functions_problem, start_of_text}
 use Rattle.ir_types.specs.TreeOf.{IsTreeBlock, IsTreeFunction, IsTreeOf}
 use Rattle.ir_types.specs.WellFormed.{IsFunctionIn, IsWellFormed}
 use Rattle.ir_types.specs.Written.{IsNamedBlock}
-use Rattle.ir_types.specs.declared.rules.Problem.{Problem}
-use Rattle.ir_types.specs.declared.rules.Rule.{Rule}
 use Rattle.ir_types.specs.declared.rules.Rule.TheVariants as rule
-use Rattle.ir_types.specs.declared.span.Span.{Span}
 use Rattle.ir_types.specs.declared.syntax.Block.{Block}
 use Rattle.ir_types.specs.declared.syntax.Function.{Function}
 use Rattle.ir_types.specs.declared.syntax.Instr.{Instr}
@@ -22,20 +19,11 @@ use Rattle.ir_types.specs.declared.tree.RawBlock.{RawBlock}
 use Rattle.ir_types.specs.declared.tree.RawFunction.{RawFunction}
 use Rattle.module_trees.specs.Meant.{MeansModule}
 use Rattle.module_trees.proofs.Limits.{within}
-use Rattle.module_trees.proofs.Main.{IsSoundBlock, IsMeantBlock, block_meant}
+use Rattle.module_trees.proofs.Blocks.{IsSoundBlock, IsMeantBlock, block_meant}
 use Rattle.module_trees.proofs.Named.{block_named}
-use Rattle.module_trees.proofs.Sound.{sound, only_one}
-
--- a list has just this item, which stands to that one so
-record IsOnly {A B : Type 0} (R : A → B → Type 0) (a : A) (ys : List B) : Type 0 where
-  item : B
-  list : ys ≡ item ∷ []
-  holds : R a item
-
-only : {A B : Type 0} (R : A → B → Type 0) (a : A) (ys : List B) → AllZip R (a ∷ []) ys → IsOnly R a ys
-only R a [] h = elim h [ ]
-only R a (y ∷ []) h = record { item = y; list = refl; holds = h.0 }
-only R a (y ∷ z ∷ zs) h = elim h.1 [ ]
+use Rattle.module_trees.proofs.Lists.{IsOnly, only, only_one}
+use Rattle.module_trees.proofs.Problems.{then_none, unbroken}
+use Rattle.module_trees.proofs.Sound.{sound}
 
 not_above : (f : Function) (b : Block) (x : RawBlock) → IsTreeBlock f b x → All (λ i. IsFirstKind i.kind) b.instrs → length f.vars ≤ 2 ^ 20 → length b.instrs ≤ 2 ^ 18 → is_above_limits x ≡ false
 not_above f b x tree first few_vars few_instrs =
@@ -54,12 +42,6 @@ record IsMeantFunction (f : Function) (x : RawFunction) : Type 0 where
 main_named : (f : Function) (x : RawFunction) → IsFirstMain f → IsTreeFunction f x → is_main x ≡ true
 main_named f x first tree = λ i. bytes_eq ((tree.named ∙ first.named) i) (codes "main") && is_i32_type (tree.gives i) && is_nil (tree.params i)
 
-two_fine : (p q : Option Problem) → p ≡ None → q ≡ None → (p >> q) ≡ None
-two_fine p q e g = λ i. e i >> g i
-
-fine : (r : Rule) (s : Span) (b : Bool) → b ≡ false → broken r s b ≡ None
-fine r s b e = ap (broken r s) e
-
 function_meant : (m : Program) (f : Function) → IsFunctionIn m f → IsFirstMain f → IsWithinLimits f → (x : RawFunction) → IsTreeFunction f x → IsMeantFunction f x
 function_meant m f rules_of first limits x tree =
     let s : IsSoundBlock f first.entry = sound m f rules_of first in
@@ -67,9 +49,9 @@ function_meant m f rules_of first limits x tree =
     let b : RawBlock = one.item in
     let meant : IsMeantBlock f first.entry b = block_meant f first.entry s b one.holds in
     let low : is_above_limits b ≡ false = not_above f first.entry b one.holds first.kinds limits.vars (few_instrs f first.entry first.blocks limits) in
-    let blocks_fine : blocks_problem x.name.span x.blocks ≡ None = ap (blocks_problem x.name.span) one.list ∙ two_fine _ _ (fine rule.Limit x.name.span _ low) meant.problem in
+    let blocks_fine : blocks_problem x.name.span x.blocks ≡ None = ap (blocks_problem x.name.span) one.list ∙ then_none _ _ (unbroken rule.Limit x.name.span _ low) meant.problem in
     record {
-      problem = two_fine _ _ (fine rule.NotYet x.name.span _ (ap not (main_named f x first tree))) blocks_fine;
+      problem = then_none _ _ (unbroken rule.NotYet x.name.span _ (ap not (main_named f x first tree))) blocks_fine;
       means = λ i. record {
         name = tree.named i;
         ret = sym first.gives i;
@@ -87,7 +69,7 @@ module_meant m raw rules_of first limits tree =
     let meant : IsMeantFunction f one.item =
     function_meant m f (only_one (IsFunctionIn m) f m.functions first.functions rules_of.functions) first.first (only_one IsWithinLimits f m.functions first.functions limits) one.item one.holds in
     record {
-      problem = two_fine _ _ (fine rule.NotYet start_of_text _ (ap (λ gs. not (is_nil gs)) tree.globals)) (ap functions_problem one.list ∙ meant.problem);
+      problem = then_none _ _ (unbroken rule.NotYet start_of_text _ (ap (λ gs. not (is_nil gs)) tree.globals)) (ap functions_problem one.list ∙ meant.problem);
       means = λ i. record {
         globals = sym first.globals i;
         functions = (ap (map function_of) one.list ∙ (ap (λ (y : Function). y ∷ []) meant.means ∙ sym (ap (map plain_function) first.functions))) i;

@@ -1,4 +1,4 @@
--- The tree of the function of a module of the first form.
+-- The tree of a block of the first form.
 use Rattle.std.proofs.Common.{◌≡◌, ◌+◌, ◌++◌, ℕ, List, ◌∷◌, Option, None, Some, length, map, refl, sym, ap, subst, ◌∙◌, append-nil, arith}
 use Rattle.std.specs.List.{AllZip, AllByRecursion, filter_map}
 use Rattle.mc_num.specs.declared.op.Width.{Width}
@@ -6,12 +6,11 @@ use Rattle.mc_num.specs.declared.op.Width.TheVariants.{I32}
 use Rattle.ir_types.specs.FirstForm.{plain_block, plain_names}
 use Rattle.ir_types.specs.ModuleOf.{block_of, term_of, vars_from}
 use Rattle.ir_types.specs.Names.{spelled}
-use Rattle.ir_types.specs.Rules.{Defined, Reached, nothing, ◌>>◌, after_instrs, at_start, at_end, locals_of, term_problem, block_problem}
+use Rattle.ir_types.specs.Rules.{Defined, Reached, nothing, after_instrs, at_start, at_end, locals_of, term_problem, block_problem}
 use Rattle.ir_types.specs.TreeOf.{IsTreeBlock, IsTreeTerm, IsTreeResult, IsTreeValue, IsTreeInstr, IsTreeAlloca}
 use Rattle.ir_types.specs.declared.name.Name.{Name}
 use Rattle.ir_types.specs.declared.rules.Meaning.{Meaning}
 use Rattle.ir_types.specs.declared.rules.Meaning.TheVariants.{Block as BlockMeaning}
-use Rattle.ir_types.specs.declared.rules.Problem.{Problem}
 use Rattle.ir_types.specs.declared.span.At.{At}
 use Rattle.ir_types.specs.declared.span.Span.{Span}
 use Rattle.ir_types.specs.declared.syntax.Block.{Block}
@@ -24,6 +23,7 @@ use Rattle.ir_types.specs.declared.tree.RawInstr.{RawInstr}
 use Rattle.ir_types.specs.declared.tree.RawTerm.{RawTerm}
 use Rattle.ir_types.specs.declared.tree.RawTerm.TheVariants as terms
 use Rattle.ir_types.specs.declared.tree.RawValue.{RawValue}
+use Rattle.module_trees.proofs.Problems.{then_none}
 use Rattle.module_trees.proofs.Ready.{IsReady, IsDefined, defined}
 use Rattle.module_trees.proofs.Uses.{Knows, IsUse, IsMeantValue, value_meant}
 use Rattle.module_trees.proofs.Allocas.{ArePassed as AllocasPassed, allocas_passed, variables_from}
@@ -39,7 +39,7 @@ pub record IsSoundBlock (f : Function) (b : Block) : Type 0 where
   pub ends : b.term ≡ Return (Some value)
   pub use_of : IsUse (length b.instrs) value
 
--- the tree of the block, at its label, its allocas and its other instructions
+-- the tree of the terminator has no problem, and means the terminator
 record IsMeantTerm (b : Block) (locals : Defined) (here : ℕ) (word : Span) (t : RawTerm) : Type 0 where
   problem : term_problem locals here word t ≡ None
   means : term_of locals t ≡ b.term
@@ -65,9 +65,6 @@ pub record IsMeantBlock (f : Function) (b : Block) (x : RawBlock) : Type 0 where
   pub problem : block_problem x ≡ None
   pub vars_are : vars_from (at_start x) x.instrs ≡ plain_names f.vars
   pub means : block_of x ≡ plain_block b
-
-three : (p q r : Option Problem) → p ≡ None → q ≡ None → r ≡ None → (p >> q >> r) ≡ None
-three p q r e f g = λ i. e i >> f i >> g i
 
 module _ (f : Function) (b : Block) (sound : IsSoundBlock f b) (written : At Name) (allocas others : List RawInstr) (term : RawTerm) (word : Span) where
   tree : RawBlock
@@ -97,7 +94,7 @@ module _ (f : Function) (b : Block) (sound : IsSoundBlock f b) (written : At Nam
       let ended : IsMeantTerm b locals (at_end tree).instrs word term =
       term_meant f b locals known (at_end tree).instrs word sound.value term fits sound.ends (subst (λ t. IsTreeTerm b t term) sound.ends tree_term) in
       record {
-        problem = three _ _ _ first.problem (one.problem locals ∙ two.problem locals known) ended.problem;
+        problem = then_none _ _ first.problem (then_none _ _ (one.problem locals ∙ two.problem locals known) ended.problem);
         vars_are = one.vars_are ∙ (ap (λ (tail : List (Width × Name)). plain_names f.vars ++ tail) two.vars_are ∙ append-nil (plain_names f.vars));
         means = λ i. record {
           name = label i;

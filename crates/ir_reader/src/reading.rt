@@ -1,0 +1,76 @@
+//! Reading of a text.
+ghost use Rattle.std.specs.Prelude.{◌≡◌, ◌≤◌, ◌^◌, length, All, IfOk};
+ghost use Rattle.ir_types.specs.Program.{Program};
+ghost use Rattle.ir_types.specs.FirstForm.{IsFirstModule, IsWithinLimits};
+ghost use Rattle.ir_reader.specs.Reading.{IsFirstForm, IsReadAs};
+ghost use Rattle.ir_reader.specs.Causes.{cause_of_lex, cause_of_parse, cause_of_check};
+
+use ir_check::check::check;
+use ir_check::error::CheckError;
+use ir_lexer::{LexError, end_of, lex};
+use ir_parser::{ParseError, parse};
+use ir_types::module::Module;
+use std::alloc::Global;
+use thiserror::Error;
+
+/// Why a text is not read.
+#[derive(Clone, Copy, Debug, PartialEq, Eq, Error)]
+pub enum ReadError {
+    /// The text is not of the first form.
+    #[error("not of the first form")]
+    NotYet,
+    #[error("out of memory")]
+    NoMemory,
+}
+
+impl From<LexError> for ReadError {
+    ghost from_gives = { λ e cause. cause ≡ cause_of_lex e };
+
+    fn from(error: LexError) -> ReadError {
+        match error {
+            LexError::BadByte(_, _) => ReadError::NotYet,
+            LexError::NoMemory => ReadError::NoMemory,
+        }
+    }
+}
+
+impl From<ParseError> for ReadError {
+    ghost from_gives = { λ e cause. cause ≡ cause_of_parse e };
+
+    fn from(error: ParseError) -> ReadError {
+        match error {
+            ParseError::Syntax(_) => ReadError::NotYet,
+            ParseError::NoMemory => ReadError::NoMemory,
+        }
+    }
+}
+
+impl From<CheckError> for ReadError {
+    ghost from_gives = { λ e cause. cause ≡ cause_of_check e };
+
+    fn from(error: CheckError) -> ReadError {
+        match error {
+            CheckError::Broken(_) => ReadError::NotYet,
+            CheckError::NoMemory => ReadError::NoMemory,
+        }
+    }
+}
+
+/// The module that a text of the first form means. The text has at most 2^26 bytes.
+///
+/// `NotYet` comes exactly where the text is not of the first form; `NoMemory` where an allocation was refused.
+pub fn read<'a>(alloc: Global, source: &'a [u8]) -> Result<Module<'a>, ReadError>
+    requires { length source.now ≤ 2 ^ 26 }
+
+    // What is read is of the first form and means the module.
+    ensures found { IfOk result (λ m. IsFirstForm source.now m) }
+    // A text of the first form is read, unless memory runs out.
+    ensures only { (m : Program) → IsFirstForm source.now m → IsReadAs m result }
+
+    ensures first { IfOk result IsFirstModule }
+    ensures limits { IfOk result (λ m. All IsWithinLimits m.functions) }
+{
+    let tokens = lex(alloc, source)?;
+    let tree = parse(alloc, &tokens, end_of(source))?;
+    Ok(check(alloc, &tree)?)
+}
