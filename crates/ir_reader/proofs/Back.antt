@@ -30,7 +30,7 @@ use Rattle.ir_lexer.specs.Tokens.{Lexing, tokens_of}
 use Rattle.ir_lexer.specs.declared.token.TokenKind.TheVariants as kinds
 use Rattle.ir_printer.specs.Text.{local_text, variable_text, value_text, main_text, text_of}
 use Rattle.module_trees.specs.Meant.{MeansModule}
-use Rattle.ir_reader.specs.Reading.{IsFirstForm, ReadsBack}
+use Rattle.ir_reader.specs.Reading.{Reads, ReadsBack}
 use Rattle.ir_reader.proofs.Names.{number_is}
 use Rattle.ir_reader.proofs.Scripts.{ValueText, Named, Counted, KindText, Alloca, Load, Store, Add, LineText, script}
 use Rattle.ir_reader.proofs.Lines.{value_of, operands_of, kind_of, line_of, line_of_var, lines_of, IsPutValue, IsPutVariable, ArePutOperands, IsPutNamed, IsPut, main_script}
@@ -101,6 +101,7 @@ text_is m first =
 pub back : ((script : List Inked) → IsParted script → LexesBack script)
     → ((m : Program) (raw : Raw) → IsWellFormed m → IsFirstModule m → All IsWithinLimits m.functions → IsTreeOf m raw → MeansModule m raw)
     → (m : Program) → IsWellFormed m → IsFirstModule m → All IsWithinLimits m.functions → ReadsBack m
+unfolding Reads
 back lexes trees m fits first limits =
     let f = first.main in
     let b = first.first.entry in

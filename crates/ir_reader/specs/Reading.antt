@@ -23,10 +23,14 @@ pub record IsFirstForm (bytes : List ℕ) (m : Program) : Type 0 where
   pub right : tree_problem tree ≡ None
   pub means : m ≡ module_of tree
 
+-- the text reads as the module
+unfoldable pub Reads : List ℕ → Program → Type 0
+Reads bytes m = IsFirstForm bytes m
+
 -- the canonical text of a module means the same module again, with each name as it is spelled
 pub record ReadsBack (m : Program) : Type 0 where
   pub again : Program
-  pub reads : IsFirstForm (text_of m) again
+  pub reads : Reads (text_of m) again
   pub same : again ≡ plain m
 
 -- the answer of reading a text that means this module: the module, unless memory ran out

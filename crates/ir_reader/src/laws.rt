@@ -3,7 +3,7 @@ ghost use Rattle.std.specs.Prelude.{◌≡◌, ℕ, List, All};
 ghost use Rattle.ir_types.specs.Program.{Program};
 ghost use Rattle.ir_types.specs.WellFormed.{IsWellFormed};
 ghost use Rattle.ir_types.specs.FirstForm.{IsFirstModule, IsWithinLimits};
-ghost use Rattle.ir_reader.specs.Reading.{IsFirstForm, ReadsBack};
+ghost use Rattle.ir_reader.specs.Reading.{Reads, ReadsBack};
 
 use ir_lexer::lexes_back;
 use ir_parser::one_reading;
@@ -11,7 +11,7 @@ use module_trees::module_trees;
 
 /// A text means one module at most.
 pub fn one_module()
-    ensures { (bytes : List ℕ) (m n : Program) → IsFirstForm bytes m → IsFirstForm bytes n → m ≡ n }
+    ensures { (bytes : List ℕ) (m n : Program) → Reads bytes m → Reads bytes n → m ≡ n }
 {
     one_reading();
 }

@@ -1,4 +1,3 @@
-pub mod StandIn
 pub mod Row
 pub mod Command
 pub mod Print

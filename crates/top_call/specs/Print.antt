@@ -8,7 +8,7 @@ use Rattle.top_call.specs.declared.ending.Stop.TheVariants.{Usage, Refused, Read
 use Rattle.top_call.specs.Ending.{Ending}
 use Rattle.ir_types.specs.Program.{Program}
 use Rattle.ir_printer.specs.Text.{text_of}
-use Rattle.top_call.specs.StandIn.{IsFirstForm}
+use Rattle.ir_reader.specs.Reading.{Reads, ReadsBack}
 
 -- how many bytes a text has at most
 abbrev pub text_limit : ℕ
@@ -19,21 +19,22 @@ pub record ReadsAs (host : HostState) (input : List ℕ) (program : Program) : T
   pub content : List ℕ
   pub holds : host.file input ≡ Some content
   pub short : length content ≤ text_limit
-  pub reads : IsFirstForm content program
+  pub reads : Reads content program
 
--- the file reads as a program whose text is this one, and the text isn't too long
+-- the file reads as a program whose text is this one; the text isn't too long, and reads back as the same program
 pub record PrintsAs (host : HostState) (input text : List ℕ) : Type 0 where
   pub program : Program
   pub reads : ReadsAs host input program
   pub is_text : text ≡ text_of program
   pub fits : length text ≤ text_limit
+  pub back : ReadsBack program
 
 -- the file has this problem: it is too long, or it isn't of the first form, or its text would be too long
 abbrev pub HasProblem : HostState → List ℕ → Problem → Type 0
 HasProblem host input TooLong = (content : List ℕ) × (host.file input ≡ Some content) × (text_limit < length content)
 HasProblem host input NotYet =
     (content : List ℕ) × (host.file input ≡ Some content) × (length content ≤ text_limit)
-    × ((program : Program) → ¬ (IsFirstForm content program))
+    × ((program : Program) → ¬ (Reads content program))
 HasProblem host input Grown = (program : Program) × ReadsAs host input program × (text_limit < length (text_of program))
 
 -- the file that is written is as before, or holds a first part of its text, which may be all of it

@@ -8,7 +8,7 @@ use Rattle.top_call.specs.declared.ending.Stop.TheVariants.{Refused, ReadFault, 
 use Rattle.top_call.specs.Print.{HasProblem, text_limit}
 use Rattle.ir_types.specs.Program.{Program}
 use Rattle.ir_printer.specs.Text.{text_of}
-use Rattle.top_call.specs.StandIn.{IsFirstForm}
+use Rattle.ir_reader.specs.Reading.{Reads}
 
 -- why a file was not read
 abbrev pub StopsReading : List ℕ → HostState → HostState → Stop → Type 0
@@ -21,7 +21,7 @@ StopsReading name old new _ = ⊥
 -- why the bytes of a file gave no program
 abbrev pub StopsParsing : (name source : List ℕ) → Stop → Type 0
 StopsParsing name source (Refused file problem) =
-    (file.now ≡ name) × (problem ≡ NotYet) × ((program : Program) → ¬ (IsFirstForm source program))
+    (file.now ≡ name) × (problem ≡ NotYet) × ((program : Program) → ¬ (Reads source program))
 StopsParsing name source OutOfMemory = Unit {0}
 StopsParsing name source _ = ⊥
 

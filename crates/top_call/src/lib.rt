@@ -5,7 +5,6 @@ mod command;
 mod ending;
 mod lines;
 mod print;
-mod stand_in;
 mod top;
 
 pub use ending::{Problem, Stop};

@@ -9,10 +9,10 @@ ghost use Rattle.top_call.specs.Stops.{StopsReading, StopsParsing, StopsPrinting
 ghost use Rattle.ir_types.specs.FirstForm.{IsFirstModule};
 ghost use Rattle.ir_types.specs.Program.{Program};
 ghost use Rattle.ir_printer.specs.Text.{text_of};
-ghost use Rattle.top_call.specs.StandIn.{IsFirstForm};
+ghost use Rattle.ir_reader.specs.Reading.{Reads, ReadsBack};
 
 use crate::ending::{Problem, Stop};
-use crate::stand_in::{self, ReadError};
+use ir_reader::{ReadError, read};
 use ir_types::module::Module;
 use mc_host::{Host, HostError};
 use std::alloc::Global;
@@ -42,12 +42,13 @@ fn read_short<'a, H: Host>(alloc: Global, host: &mut H, name: &'a str) -> Result
 // The module that the bytes of a file spell.
 fn parsed<'a, 's>(alloc: Global, file: &'a str, source: &'s [u8]) -> Result<Module<'s>, Stop<'a>>
     requires { length source.now ≤ text_limit }
-    ensures read { IfOk result (IsFirstForm source.now) }
-    ensures only { IfOk result (λ program. (other : Program) → IsFirstForm source.now other → other ≡ program) }
+    ensures read { IfOk result (Reads source.now) }
+    ensures only { IfOk result (λ program. (other : Program) → Reads source.now other → other ≡ program) }
     ensures first { IfOk result IsFirstModule }
+    ensures back { IfOk result ReadsBack }
     ensures stops { IfErr result (StopsParsing file.now source.now) }
 {
-    match stand_in::read(alloc, source) {
+    match read(alloc, source) {
         Ok(module) => Ok(module),
         Err(ReadError::NotYet) => Err(Stop::Refused {
             file,
