@@ -1,8 +1,8 @@
 -- The module that a tree without a problem means is well formed, of the first form and within the limits.
-use Rattle.std.proofs.Common.{◌≡◌, ◌<◌, ◌≤◌, ◌+◌, ◌^◌, ◌++◌, ◌&&◌, not, ℕ, Bool, true, false, List, [], ◌∷◌, Option, None, Some, length, map, cond, append-nil, length-append, refl, sym, ap, ◌∙◌, rules, arith}
-use Rattle.std.specs.Prelude.{◌≢◌, All, AllPairs, IfSome, IsSomeAnd, slice_get, codes, sum_by, count_by, option_to_list, flat_map}
+use Rattle.std.proofs.Common.{◌≡◌, ◌<◌, ◌≤◌, ◌+◌, ◌++◌, ◌&&◌, not, ℕ, Bool, true, false, List, [], ◌∷◌, Option, None, Some, length, map, cond, append-nil, length-append, refl, sym, ap, ◌∙◌, rules, arith}
+use Rattle.std.specs.Prelude.{◌≢◌, All, AllPairs, IfSome, codes, count_by, option_to_list}
 use Rattle.std.specs.Str.{bytes_eq}
-use Rattle.std.proofs.lemmas.List.Elements.{All-same, All-nil, All-cons, All-head, All-tail, All-append, All-push, All-weaker}
+use Rattle.std.proofs.lemmas.List.Elements.{All-same, All-nil, All-cons, All-head, All-tail, All-append, All-weaker}
 use Rattle.mc_num.specs.declared.op.Width.{Width}
 use Rattle.mc_num.specs.declared.op.Width.TheVariants.{I32}
 use Rattle.ir_types.specs.declared.span.At.{At}
@@ -10,14 +10,11 @@ use Rattle.ir_types.specs.declared.span.Span.{Span}
 use Rattle.ir_types.specs.declared.name.Name.{Name}
 use Rattle.ir_types.specs.declared.rules.Meaning.{Meaning}
 use Rattle.ir_types.specs.declared.rules.Meaning.TheVariants.{Block as BlockMeaning}
-use Rattle.ir_types.specs.declared.rules.Problem.{Problem}
 use Rattle.ir_types.specs.declared.rules.Rule.TheVariants as rule
 use Rattle.ir_types.specs.declared.syntax.Operand.{Operand}
 use Rattle.ir_types.specs.declared.syntax.Instr.{Instr}
-use Rattle.ir_types.specs.declared.syntax.Block.{Block}
 use Rattle.ir_types.specs.declared.syntax.Function.{Function}
 use Rattle.ir_types.specs.declared.syntax.Global.{Global}
-use Rattle.ir_types.specs.declared.syntax.Terminator.{Terminator}
 use Rattle.ir_types.specs.declared.syntax.Terminator.TheVariants.{Return}
 use Rattle.ir_types.specs.declared.tree.RawKind.{RawKind}
 use Rattle.ir_types.specs.declared.tree.RawKind.TheVariants as kind
@@ -27,17 +24,16 @@ use Rattle.ir_types.specs.declared.tree.RawInstr.{RawInstr}
 use Rattle.ir_types.specs.declared.tree.RawBlock.{RawBlock}
 use Rattle.ir_types.specs.declared.tree.RawParam.{RawParam}
 use Rattle.ir_types.specs.declared.tree.RawFunction.{RawFunction}
-use Rattle.ir_types.specs.declared.tree.RawGlobal.{RawGlobal}
 use Rattle.ir_types.specs.declared.tree.RawValue.{RawValue}
 use Rattle.ir_types.specs.declared.tree.Raw.{Raw}
 use Rattle.ir_types.specs.declared.tree.Ty.{Ty}
-use Rattle.ir_types.specs.FirstForm.{IsFirstMain, IsFirstModule, IsWithinLimits, slot_count}
+use Rattle.ir_types.specs.FirstForm.{IsFirstMain, IsFirstModule, IsWithinLimits}
 use Rattle.ir_types.specs.Names.{IsNameText, IsSpellable, spelled}
 use Rattle.ir_types.specs.Program.{Program}
-use Rattle.ir_types.specs.WellFormed.{Scope, scope, widths, names, size, targets, Ends, IsGlobal, IsBlockIn, IsFunctionIn, IsWellFormed}
+use Rattle.ir_types.specs.WellFormed.{Scope, scope, names, IsGlobal, IsBlockIn, IsFunctionIn, IsWellFormed}
 use Rattle.ir_types.specs.Written.{IsDefinable, IsNamedBlock, IsNamedTree}
-use Rattle.ir_types.specs.Rules.{Defined, nothing, name_of, define, name_problem, Reached, is_alloca, is_i32, after_instr, at_start, at_end, locals_of, instrs_problem, instr_problem, value_problem, term_problem, block_problem, is_above_limits, is_main, is_i32_type, is_nil, blocks_problem, function_problem, functions_problem, tree_problem, start_of_text}
-use Rattle.ir_types.specs.ModuleOf.{operand_of, var_of, instr_of, vars_from, instrs_from, term_of, block_of, function_of, module_of}
+use Rattle.ir_types.specs.Rules.{Defined, nothing, name_of, name_problem, Reached, is_alloca, is_i32, after_instr, at_start, at_end, locals_of, instrs_problem, instr_problem, value_problem, term_problem, block_problem, is_above_limits, is_main, is_i32_type, is_nil, blocks_problem, functions_problem, tree_problem, start_of_text}
+use Rattle.ir_types.specs.ModuleOf.{operand_of, var_of, instr_of, vars_from, instrs_from, term_of, block_of, function_of}
 use Rattle.ir_check.specs.Modules.{IsAdmitted}
 use Rattle.ir_check.proofs.Distinct.{both_none, kept}
 use Rattle.ir_check.proofs.Steps.{how_many, how_many_is, two_limits, few_instrs}
@@ -91,7 +87,7 @@ count_of_instrs locals r [] = omega arith
 count_of_instrs locals r (x ∷ xs) =
     rw (length-append (option_to_list (instr_of locals r x x.kind)) (instrs_from locals (after_instr r x) xs))
     (added_most (not (is_alloca x.kind)) (length (option_to_list (instr_of locals r x x.kind))) (how_many (λ x. not (is_alloca x.kind)) xs) (length (instrs_from locals (after_instr r x) xs))
-        (one_instr locals r x x.kind) (count_of_instrs locals (after_instr r x) xs))
+    (one_instr locals r x x.kind) (count_of_instrs locals (after_instr r x) xs))
 
 -- ---- the variables are of i32
 
@@ -120,8 +116,8 @@ all_narrow locals r [] h = All-nil IsNarrow
 all_narrow locals r (x ∷ xs) h =
     let parts = both_none _ _ h in
     All-append IsNarrow (option_to_list (var_of r x x.kind)) (vars_from (after_instr r x) xs)
-        (All-option IsNarrow (var_of r x x.kind) (one_narrow locals r x.result x.word x.kind parts.0))
-        (all_narrow locals (after_instr r x) xs parts.1)
+    (All-option IsNarrow (var_of r x x.kind) (one_narrow locals r x.result x.word x.kind parts.0))
+    (all_narrow locals (after_instr r x) xs parts.1)
 
 -- ---- the block
 

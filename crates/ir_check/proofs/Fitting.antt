@@ -1,13 +1,10 @@
 -- Instructions that use earlier results and variables that are there fit.
-use Rattle.std.proofs.Common.{◌≡◌, ◌<◌, ◌≤◌, ◌+◌, ◌^◌, ◌++◌, min, ℕ, true, false, List, [], ◌∷◌, Option, None, Some, length, map, get_or, take, is_some, get_or-take, length-take, refl, sym, ap, ◌∙◌, arith}
-use Rattle.std.specs.Prelude.{◌↔◌, All, IsSome, IsSomeAnd, slice_get, option_map}
-use Rattle.std.specs.List.{AllZip}
+use Rattle.std.proofs.Common.{◌≡◌, ◌<◌, ℕ, List, Option, None, Some, length, get_or, take, is_some, get_or-take, length-take, refl, ap, ◌∙◌, arith}
+use Rattle.std.specs.Prelude.{◌↔◌, All, IsSome, slice_get, option_map}
 use Rattle.std.proofs.lemmas.Option.{slice_get-map, slice_get_within, slice_get-get_or, get_or_from_slice_get}
 use Rattle.std.proofs.lemmas.List.{take_all}
-use Rattle.mc_num.specs.Op.{bits, result_width, argument_widths, IsWellFormedOp}
-use Rattle.mc_num.specs.declared.op.Bin.TheVariants.{Add}
+use Rattle.mc_num.specs.Op.{result_width}
 use Rattle.mc_num.specs.declared.op.Op.{Op}
-use Rattle.mc_num.specs.declared.op.Op.TheVariants.{Bin as BinOp}
 use Rattle.mc_num.specs.declared.op.Width.{Width}
 use Rattle.mc_num.specs.declared.op.Width.TheVariants.{I32}
 use Rattle.ir_types.specs.declared.name.Name.{Name}
@@ -20,9 +17,9 @@ use Rattle.ir_types.specs.declared.syntax.Kind.{Kind}
 use Rattle.ir_types.specs.declared.syntax.Kind.TheVariants.{Load, Store, Compute, Call}
 use Rattle.ir_types.specs.declared.syntax.Instr.{Instr}
 use Rattle.ir_types.specs.FirstForm.{IsFirstKind}
-use Rattle.ir_types.specs.WellFormed.{Scope, widths, variable_width, given_by, HasWidth, IsOperation, Fits, IsNamed}
+use Rattle.ir_types.specs.WellFormed.{Scope, widths, variable_width, given_by, HasWidth, Fits, IsNamed}
 use Rattle.ir_check.proofs.Made.{IsGiver, some_value}
-use Rattle.ir_check.proofs.Using.{IsLocal, IsValue, IsSum, IsUsable, IsNamedAs, IsUsed, AllUsed, used_at}
+use Rattle.ir_check.proofs.Using.{IsLocal, IsValue, IsUsable, IsNamedAs, IsUsed, AllUsed, used_at}
 
 -- what holds of each element that can be got holds of all
 pub All-from_slice_get : {X : Type 0} (P : X → Type 0) (xs : List X) → ((k : ℕ) (x : X) → slice_get xs k ≡ Some x → P x) → All P xs

@@ -1,7 +1,7 @@
 -- A block without a problem: its names, and what they stand for among the variables and the instructions that it makes.
-use Rattle.std.proofs.Common.{◌≡◌, ◌<◌, ◌≤◌, ◌+◌, ◌-◌, ◌^◌, ◌++◌, min, not, ℕ, suc, Bool, true, false, List, [], ◌∷◌, Option, None, Some, length, map, get_or, is_some, if◌then◌else◌, append_assoc, append-nil, length-append, refl, sym, ap, ◌∙◌, rules, arith}
-use Rattle.std.specs.Prelude.{◌==◌, All, IfSome, IsSomeAnd, slice_get, filter_map, option_to_list}
-use Rattle.std.proofs.lemmas.List.{map_push, map-append, get_or_append_left}
+use Rattle.std.proofs.Common.{◌≡◌, ◌<◌, ◌≤◌, ◌+◌, ◌++◌, min, not, ℕ, Bool, true, false, List, [], ◌∷◌, Option, None, Some, length, map, if◌then◌else◌, append_assoc, append-nil, length-append, refl, sym, ap, ◌∙◌, arith}
+use Rattle.std.specs.Prelude.{◌==◌, All, IsSomeAnd, slice_get, filter_map, option_to_list}
+use Rattle.std.proofs.lemmas.List.{map_push, get_or_append_left}
 use Rattle.std.proofs.lemmas.List.Elements.{All-push, All-head, All-tail, All-weaker, filter_map-append}
 use Rattle.std.proofs.lemmas.Option.{slice_get_within, slice_get-get_or, get_or_from_slice_get}
 use Rattle.mc_num.specs.declared.op.Width.{Width}
@@ -19,10 +19,10 @@ use Rattle.ir_types.specs.declared.syntax.Instr.{Instr}
 use Rattle.ir_types.specs.declared.tree.RawKind.{RawKind}
 use Rattle.ir_types.specs.declared.tree.RawKind.TheVariants as kind
 use Rattle.ir_types.specs.declared.tree.RawInstr.{RawInstr}
-use Rattle.ir_types.specs.Names.{IsNameText, spelled, IsSpellable, no_number}
+use Rattle.ir_types.specs.Names.{IsNameText, spelled, IsSpellable}
 use Rattle.ir_types.specs.WellFormed.{CountFrom}
 use Rattle.ir_types.specs.Written.{IsDefinable}
-use Rattle.ir_types.specs.Rules.{Defined, name_of, define, define_some, is_counted, name_problem, broken, Reached, result_meaning, after_instr, after_instrs, is_first_kind, kind_problem, instr_problem, instrs_problem}
+use Rattle.ir_types.specs.Rules.{Defined, name_of, define, define_some, is_counted, name_problem, Reached, result_meaning, after_instr, after_instrs, is_first_kind, instr_problem, instrs_problem}
 use Rattle.ir_types.specs.ModuleOf.{variable_of, operand_of, var_of, instr_of, vars_from, instrs_from}
 use Rattle.ir_check.proofs.Distinct.{both_none, kept, equal, IsSound, defines, sound_after}
 
@@ -173,8 +173,8 @@ module _ (first : Name) (r : Reached) (vs : List (Width × Name)) (room : r.befo
         keys_more r.before (Variable r.variables) room written made.names.sound h
         ∙ (ap (λ (ns : List Name). ns ++ name_of r.before written ∷ []) made.keys
         ∙ ap (λ (ns : List Name). first ∷ ns)
-            (ap (λ (ns : List Name). ns ++ name_of r.before written ∷ []) (append-nil (map (λ (x : Width × Name). x.1) vs))
-            ∙ sym (append-nil (map (λ (x : Width × Name). x.1) (vs ++ (w, name_of r.before written) ∷ [])) ∙ map_push (λ (x : Width × Name). x.1) vs (w, name_of r.before written))));
+        (ap (λ (ns : List Name). ns ++ name_of r.before written ∷ []) (append-nil (map (λ (x : Width × Name). x.1) vs))
+        ∙ sym (append-nil (map (λ (x : Width × Name). x.1) (vs ++ (w, name_of r.before written) ∷ [])) ∙ map_push (λ (x : Width × Name). x.1) vs (w, name_of r.before written))));
     means = rw (defines r.before (Variable r.variables) room made.names.sound written h)
         (All-push (λ (e : Name × Meaning). Means (vs ++ (w, name_of r.before written) ∷ []) [] e.1) r.before.meanings (name_of r.before written, Variable r.variables)
         (meanings_more r.before.meanings vs ((w, name_of r.before written) ∷ []) [] [] made.means) (omega (arith, made.variables, length-append vs ((w, name_of r.before written) ∷ []))));
@@ -209,7 +209,6 @@ module _ (first : Name) (r : Reached) (vs : List (Width × Name)) (room : r.befo
   }
 
 -- ---- the step and the induction
-
 
 pub first_of : (r : Reached) (x : RawInstr) (locals : Defined) → instr_problem locals r x ≡ None → not (is_first_kind x.kind) ≡ false
 first_of r x locals h = kept _ _ _ (both_none _ _ (both_none _ _ h).1).0
@@ -248,7 +247,7 @@ next_step r x = next_some r.before x.result (result_meaning r x.kind)
 pub all_made : (first : Name) (locals : Defined) (r : Reached) (vs : List (Width × Name)) (is : List Instr) (xs : List RawInstr) → r.before.next + length xs < 4294967295 → IsMade first r vs is
     → All (λ x. IsDefinable x.result) xs → instrs_problem locals r xs ≡ None → IsMade first (after_instrs r xs) (vs ++ vars_from r xs) (is ++ instrs_from locals r xs)
 unfolding after_instrs instrs_problem vars_from instrs_from
-all_made first locals r vs is [] room made d h = rw (append-nil, append-nil) made
+all_made first locals r vs is [] room made d h = rw (append-nil vs, append-nil is) made
 all_made first locals r vs is (x ∷ xs) room made d h =
     let parts = both_none _ _ h in
     let near : r.before.next < 4294967295 = omega arith in

@@ -1,11 +1,9 @@
 -- What values and addresses without a problem stand for: earlier results and variables that are there.
-use Rattle.std.proofs.Common.{◌≡◌, ◌<◌, ◌≤◌, ◌+◌, ◌-◌, ◌^◌, ◌++◌, ◌&&◌, not, nat_lt, nat_le, ℕ, ℤ, pos, negsuc, zero, suc, Bool, true, false, List, [], ◌∷◌, Option, None, Some, length, refl, sym, ap, ◌∙◌, rules, arith}
+use Rattle.std.proofs.Common.{◌≡◌, ◌<◌, ◌+◌, ◌++◌, ◌&&◌, not, nat_lt, nat_le, ℕ, ℤ, pos, negsuc, zero, suc, Bool, true, false, List, [], ◌∷◌, Option, None, Some, length, refl, arith}
 use Rattle.std.specs.Prelude.{All, IfSome, IsSomeAnd, slice_get, is_some, option_to_list, if◌then◌else◌}
-use Rattle.std.specs.List.{Contains}
 use Rattle.std.proofs.lemmas.Bool.Decides.{nat_tests}
 use Rattle.std.proofs.lemmas.List.Elements.{All-contains}
 use Rattle.std.proofs.lemmas.Map.Views.{Contains-from_lookup}
-use Rattle.mc_num.specs.Op.{bits}
 use Rattle.mc_num.specs.declared.op.Bin.{Bin}
 use Rattle.mc_num.specs.declared.op.Bin.TheVariants.{Add, Sub, Mul, UDiv, SDiv, URem, SRem, Shl, LShr, AShr, And, Or, Xor}
 use Rattle.mc_num.specs.declared.op.Op.{Op}
@@ -32,7 +30,7 @@ use Rattle.ir_types.specs.declared.tree.RawValue.TheVariants as value
 use Rattle.ir_types.specs.declared.tree.RawKind.{RawKind}
 use Rattle.ir_types.specs.declared.tree.RawKind.TheVariants as kind
 use Rattle.ir_types.specs.declared.tree.RawInstr.{RawInstr}
-use Rattle.ir_types.specs.Rules.{Defined, same_name, meaning_of, broken, Reached, is_undefined, is_no_value, is_no_variable, is_in_range, item_problem, value_problem, place_problem, address_problem, is_i32, is_add, is_first_kind, after_instr, instr_problem, instrs_problem}
+use Rattle.ir_types.specs.Rules.{Defined, meaning_of, Reached, is_undefined, is_no_value, is_no_variable, is_in_range, item_problem, value_problem, place_problem, address_problem, is_i32, is_add, is_first_kind, after_instr, instr_problem, instrs_problem}
 use Rattle.ir_types.specs.ModuleOf.{constant, operand_meaning, operand_of, variable_meaning, variable_of, instr_of, instrs_from}
 use Rattle.ir_check.proofs.Distinct.{both_none, kept, same}
 use Rattle.ir_check.proofs.Made.{IsGiver, Means, first_of}
@@ -229,9 +227,9 @@ all_used vs is locals known r [] h = tt
 all_used vs is locals known r (x ∷ xs) h =
     let parts = both_none _ _ h in
     one_used vs is r.instrs (after_instr r x).instrs (instr_of locals r x x.kind) (instrs_from locals (after_instr r x) xs)
-        (kind_used vs is locals known r x.result x.word x.kind parts.0)
-        (counts_instr locals r x.result x.word x.kind parts.0)
-        (all_used vs is locals known (after_instr r x) xs parts.1)
+    (kind_used vs is locals known r x.result x.word x.kind parts.0)
+    (counts_instr locals r x.result x.word x.kind parts.0)
+    (all_used vs is locals known (after_instr r x) xs parts.1)
 
 pub used_at : (vs : List (Width × Name)) (is : List Instr) (n : ℕ) (rest : List Instr) → AllUsed vs is n rest → (k : ℕ) (i : Instr) (m : ℕ) → m ≡ n + k → slice_get rest k ≡ Some i → IsUsed vs is m i
 unfolding AllUsed

@@ -1,5 +1,5 @@
 -- What an instruction of a tree becomes.
-use Rattle.std.specs.Prelude.{List, Option, Some, None, not}
+use Rattle.std.specs.Prelude.{Option, Some, None, not}
 use Rattle.ir_types.specs.declared.rules.Problem.{Problem}
 use Rattle.ir_types.specs.declared.rules.Rule.TheVariants.{NotYet}
 use Rattle.ir_types.specs.declared.tree.RawInstr.{RawInstr}

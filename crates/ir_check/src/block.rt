@@ -40,7 +40,10 @@ fn count_of_allocas(instrs: &[RawInstr<'_>]) -> usize
 fn count_of_others(instrs: &[RawInstr<'_>]) -> usize
     ensures { result ≡ count_by (λ x. not (is_alloca x.kind)) instrs.now }
 {
-    instrs.iter().filter(|instr| !is_alloca(&instr.kind)).count()
+    instrs
+        .iter()
+        .filter(|instr| !is_alloca(&instr.kind))
+        .count()
 }
 
 /// Whether a block has more variables or more other instructions than a function may have.

@@ -5,5 +5,4 @@ ghost use Rattle.ir_check.specs.Modules.{AdmitsTrees};
 /// the tree's names can be spelled. It does nothing when it runs.
 pub fn checked_modules()
     ensures { AdmitsTrees }
-{
-}
+{}

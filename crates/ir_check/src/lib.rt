@@ -1,11 +1,15 @@
 //! The rules of a tree: the module that it means, or its first problem.
 #![tactic(auto)]
 
-pub mod block;
-pub mod check;
-pub mod definitions;
-pub mod error;
-pub mod law;
-pub mod parts;
-pub mod reached;
-pub mod uses;
+mod block;
+mod checking;
+mod definitions;
+mod error;
+mod law;
+mod parts;
+mod reached;
+mod uses;
+
+pub use checking::check;
+pub use error::CheckError;
+pub use law::checked_modules;

@@ -123,6 +123,17 @@ fn two_operands(alloc: Global, one: Operand, other: Operand) -> Result<Operands,
     Ok(operands)
 }
 
+/// An instruction that gives a result of this name.
+fn giving<'a>(name: Name<'a>, kind: Kind) -> Part<'a>
+    ensures variable { variable_in result ≡ None }
+    ensures instruction { instruction_in result ≡ Some (record { result = Some name.entry; kind = kind }) }
+{
+    Part::Instruction(Instr {
+        result: Some(name),
+        kind,
+    })
+}
+
 /// What an instruction becomes, or what is wrong with it behind its name. `locals` is what the names of the whole
 /// block mean.
 fn kind_part<'a>(
@@ -143,13 +154,7 @@ fn kind_part<'a>(
             refuse_if(here != 0, Rule::LateAlloca, instr.word)?;
             Ok(Part::Variable(*width, name))
         }
-        RawKind::Load(_, place) => {
-            let kind = Kind::Load(address(locals, here, place)?);
-            Ok(Part::Instruction(Instr {
-                result: Some(name),
-                kind,
-            }))
-        }
+        RawKind::Load(_, place) => { Ok(giving(name, Kind::Load(address(locals, here, place)?))) }
         RawKind::Store(width, stored, place) => {
             let stored = value(locals, here, *width, stored)?;
             let kind = Kind::Store(stored, address(locals, here, place)?);
@@ -159,10 +164,7 @@ fn kind_part<'a>(
             let one = value(locals, here, *width, one)?;
             let other = value(locals, here, *width, other)?;
             let kind = Kind::Compute(Op::Bin(*op, *width), two_operands(alloc, one, other)?);
-            Ok(Part::Instruction(Instr {
-                result: Some(name),
-                kind,
-            }))
+            Ok(giving(name, kind))
         }
         _ => {
             Err(CheckError::Broken(Problem {

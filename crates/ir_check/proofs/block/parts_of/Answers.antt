@@ -1,4 +1,4 @@
-use Rattle.std.proofs.Common.{◌≡◌, ◌≤◌, ◌+◌, length, sym, ◌∙◌, arith}
+use Rattle.std.proofs.Common.{sym, ◌∙◌, arith}
 use Rattle.std.proofs.lemmas.Result.{err_from_is_err_and}
 use Rattle.ir_check.specs.Parts.{variable_in, instruction_in}
 use Rattle.ir_check.proofs.Steps.{counted, passed, stopped, after_instrs-step, after_instrs-end, instrs_problem-step, instrs_problem-end, vars-more, vars-end, instrs-more, instrs-end}

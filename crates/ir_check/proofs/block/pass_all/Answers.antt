@@ -1,4 +1,4 @@
-use Rattle.std.proofs.Common.{◌≡◌, ◌≤◌, ◌+◌, length, sym, ◌∙◌, arith}
+use Rattle.std.proofs.Common.{sym, ◌∙◌, arith}
 use Rattle.ir_check.proofs.Steps.{counted, after_instrs-step, after_instrs-end}
 use Rattle.ir_check.proofs.block.pass_all.Goals as goal
 

@@ -48,11 +48,7 @@ fn is_main(function: &RawFunction<'_>) -> bool
 
 /// What the only block of a function becomes, or what is wrong with the blocks; `name` is the place of the function's
 /// name.
-fn only_body<'a>(
-    alloc: Global,
-    name: Span,
-    blocks: &[RawBlock<'a>],
-) -> Result<Body<'a>, CheckError>
+fn only_body<'a>(alloc: Global, name: Span, blocks: &[RawBlock<'a>]) -> Result<Body<'a>, CheckError>
     ensures problem { IsAnswer result (blocks_problem name blocks.now) }
     ensures variables { IfOk result (λ body. body.variables ≡ flat_map (λ b. vars_from (at_start b) b.instrs) blocks.now) }
     ensures block { IfOk result (λ body. body.block ∷ [] ≡ map block_of blocks.now) }
@@ -77,7 +73,11 @@ fn function<'a>(alloc: Global, function: &RawFunction<'a>) -> Result<Function<'a
     ensures function { IfOk result (λ made. made ≡ function_of function.now) }
 {
     refuse_if(!is_main(function), Rule::NotYet, function.name.span)?;
-    let Body { variables, block } = only_body(alloc, function.name.span, function.blocks.as_slice())?;
+    let Body { variables, block } = only_body(
+        alloc,
+        function.name.span,
+        function.blocks.as_slice(),
+    )?;
     let mut blocks = Items::new(alloc);
     blocks.push(block)?;
     Ok(Function {
@@ -137,3 +137,6 @@ pub fn check<'a>(alloc: Global, raw: &Raw<'a>) -> Result<Module<'a>, CheckError>
     let functions = tree(alloc, raw)?;
     Ok(Module::new(Items::new(alloc), functions))
 }
+
+#[cfg(test)]
+mod tests;

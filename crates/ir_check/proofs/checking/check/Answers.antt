@@ -1,5 +1,5 @@
-use Rattle.ir_check.proofs.Admitted.{AreRules, parts_sound, whole_sound}
-use Rattle.ir_check.proofs.check.check.Goals as goal
+use Rattle.ir_check.proofs.Admitted.{parts_sound, whole_sound}
+use Rattle.ir_check.proofs.checking.check.Goals as goal
 
 pub new-requires-2 : goal.new-requires-2
 new-requires-2 c = parts_sound c.args.raw.now c.new.result c.in_ok-functions.functions c.requires.named c.in_ok-functions.ensures.problem c.new.ensures c.in_ok-functions.ensures.functions
