@@ -1,5 +1,5 @@
 -- The names that a tree defines can be spelled, where its tokens are.
-use Rattle.std.proofs.Common.{◌≡◌, ℕ, suc, zero, ◌+◌, ◌-◌, ◌<◌, ◌≤◌, ◌&&◌, ◌||◌, ◌==◌, nat_le, nat_lt, min, not, Bool, true, false, cond, List, [], ◌∷◌, ◌++◌, Option, Some, None, length, take, drop, map, refl, sym, ap, subst, ◌∙◌, ◌⊎◌, inl, inr, arith, codes, IsTrue}
+use Rattle.std.proofs.Common.{◌≡◌, ℕ, ◌+◌, ◌-◌, ◌<◌, ◌&&◌, ◌||◌, ◌==◌, min, not, Bool, true, false, cond, List, [], ◌∷◌, ◌++◌, Option, Some, None, length, take, map, refl, sym, ap, subst, ◌∙◌, ◌⊎◌, inl, inr, arith, codes}
 use Rattle.std.specs.Prelude.{All, IfSome}
 use Rattle.std.specs.List.{list_all, AllByRecursion}
 use Rattle.std.specs.Str.Parse.{digits_value}
@@ -10,8 +10,6 @@ use Rattle.grammar.specs.Grammar.{SpellsAll}
 use Rattle.ir_types.specs.Bytes.{heads, is_one_of, is_digit, is_name_byte, is_quotable, is_plain_name}
 use Rattle.ir_types.specs.Names.{IsNameText, no_number}
 use Rattle.ir_types.specs.Written.{IsWritten, IsDefinable, IsNamedBlock, IsNamedTree}
-use Rattle.ir_types.specs.declared.span.At.{At}
-use Rattle.ir_types.specs.declared.name.Name.{Name}
 use Rattle.ir_types.specs.declared.name.Name.TheVariants.{Text, Number}
 use Rattle.ir_types.specs.declared.tree.Raw.{Raw}
 use Rattle.ir_types.specs.declared.tree.RawFunction.{RawFunction}
@@ -22,7 +20,7 @@ use Rattle.ir_lexer.specs.Texts.{IsRun, IsQuoted, IsName, IsText}
 use Rattle.ir_lexer.specs.declared.token.TokenKind.{TokenKind}
 use Rattle.ir_lexer.specs.declared.token.TokenKind.TheVariants as kinds
 use Rattle.ir_parser.specs.Words.{unquoted, name_of, local_name, label_name}
-use Rattle.ir_parser.specs.FirstForm.{place_of, is_kind, Worded, instr, instrs, label, block, first_form}
+use Rattle.ir_parser.specs.FirstForm.{place_of, is_kind, instr, instrs, label, block, first_form}
 use Rattle.ir_parser.proofs.Yields.{YieldsFrom, anything, of_kind, of_pair, of_gives, of_first, of_second, of_choice, of_optional, of_repeated}
 
 -- ---- names
@@ -55,6 +53,7 @@ name_byte_quotable b e = by_cases (or_cases (is_ascii_alphabetic b || is_digit b
     by_first : (is_ascii_alphabetic b ≡ true) ⊎ (is_digit b ≡ true) → is_quotable b ≡ true
     by_first (inl h) = alphabetic_quotable b h
     by_first (inr h) = digit_quotable b h
+
     by_cases : (is_ascii_alphabetic b || is_digit b ≡ true) ⊎ (is_one_of (codes "-$._") b ≡ true) → is_quotable b ≡ true
     by_cases (inl h) = by_first (or_cases (is_ascii_alphabetic b) (is_digit b) h)
     by_cases (inr h) = sign_quotable b h
@@ -69,10 +68,13 @@ no_quote (b ∷ bs) all = go (b == 34) refl
   where
     same : b == 34 ≡ true → b ≡ 34
     same h = grind arith
+
     fails : b == 34 ≡ true → b == 34 ≡ false
     fails h = absurd (let x : is_name_byte 34 ≡ true = subst (λ y. is_name_byte y ≡ true) (same h) (both (is_name_byte b) (list_all is_name_byte bs) all).0 in cc)
+
     unquoted_is : b == 34 ≡ false → unquoted (b ∷ bs) ≡ b ∷ bs
     unquoted_is h = rw h refl
+
     go : (r : Bool) → b == 34 ≡ r → unquoted (b ∷ bs) ≡ b ∷ bs
     go true h = unquoted_is (fails h)
     go false h = unquoted_is h
@@ -91,6 +93,7 @@ quoted_written bytes is = let P : List ℕ → Type 0 = λ l. IsWritten (name_of
   where
     len : length (is.name ++ 34 ∷ []) ≡ length is.name + 1
     len = length-append is.name (34 ∷ [])
+
     inner : take (length (34 ∷ (is.name ++ 34 ∷ [])) - 2) (is.name ++ 34 ∷ []) ≡ is.name
     inner = let n : length (34 ∷ (is.name ++ 34 ∷ [])) - 2 ≡ length is.name = omega (arith, len) in ap (λ k. take k (is.name ++ 34 ∷ [])) n ∙ take_at is.name (34 ∷ []) (length is.name) refl
 

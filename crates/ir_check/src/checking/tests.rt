@@ -2,7 +2,7 @@
 ghost use Rattle.std.specs.Prelude.{All, IfOk};
 ghost use Rattle.ir_types.specs.Written.{IsDefinable, IsNamedTree};
 
-use crate::check::check;
+use super::check;
 use crate::error::CheckError;
 use ir_types::items::Items;
 use ir_types::name::{Name, Spelling};

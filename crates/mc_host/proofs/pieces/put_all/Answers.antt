@@ -1,5 +1,4 @@
-use Rattle.std.proofs.Common.{◌≡◌, sym, ◌∙◌, ap, add-one, suc, take, drop, ℕ, List, [], ◌++◌, Ok, Bor}
-use Rattle.mc_host.specs.Streams.{Puts}
+use Rattle.std.proofs.Common.{add-one, suc, drop, ℕ, List, [], Bor}
 use Rattle.mc_host.proofs.PutsLemmas.{puts_then, puts_stop, joined, joined-take_more, joined-split}
 use Rattle.mc_host.proofs.pieces.put_all.Goals as goal
 
