@@ -4,6 +4,8 @@
 mod growing;
 mod printing;
 mod spelling;
+#[cfg(test)]
+mod tests;
 
 pub use printing::print;
 pub use spelling::name_to;

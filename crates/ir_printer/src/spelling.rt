@@ -55,12 +55,7 @@ fn made_to<S: Sink>(prefix: &str, made: Made, sink: &mut S) -> Result<(), Failed
         ),
         Made::Split { p } => put_all(
             sink,
-            &[
-                b"pre",
-                prefix.as_bytes(),
-                b".b",
-                first.format(p).as_bytes(),
-            ],
+            &[b"pre", prefix.as_bytes(), b".b", first.format(p).as_bytes()],
         ),
     }
 }

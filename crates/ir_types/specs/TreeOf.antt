@@ -14,7 +14,7 @@ use Rattle.ir_types.specs.declared.syntax.Operand.TheVariants.{Const, Param, Reg
 use Rattle.ir_types.specs.declared.syntax.Variable.{Variable}
 use Rattle.ir_types.specs.declared.syntax.Variable.TheVariants.{Local, Global}
 use Rattle.ir_types.specs.declared.syntax.Kind.{Kind}
-use Rattle.ir_types.specs.declared.syntax.Kind.TheVariants.{Load, Store, Compute, Call}
+use Rattle.ir_types.specs.declared.syntax.Kind.TheVariants.{Load, Store, Compute}
 use Rattle.ir_types.specs.declared.syntax.Instr.{Instr}
 use Rattle.ir_types.specs.declared.syntax.Terminator.{Terminator}
 use Rattle.ir_types.specs.declared.syntax.Terminator.TheVariants.{Return}

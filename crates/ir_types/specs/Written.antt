@@ -1,12 +1,10 @@
 -- Names that a text can spell.
-use Rattle.std.specs.Prelude.{List, Option, All, IfSome}
+use Rattle.std.specs.Prelude.{Option, All, IfSome}
 use Rattle.ir_types.specs.Names.{IsNameText}
 use Rattle.ir_types.specs.declared.span.At.{At}
 use Rattle.ir_types.specs.declared.name.Name.{Name}
 use Rattle.ir_types.specs.declared.name.Name.TheVariants.{Text, Number, Made}
-use Rattle.ir_types.specs.declared.tree.RawInstr.{RawInstr}
 use Rattle.ir_types.specs.declared.tree.RawBlock.{RawBlock}
-use Rattle.ir_types.specs.declared.tree.RawFunction.{RawFunction}
 use Rattle.ir_types.specs.declared.tree.Raw.{Raw}
 
 -- a text that can be written as a name, or any number

@@ -1,9 +1,9 @@
 //! Copies of the syntax types.
 use crate::duplicate::Duplicate;
 use crate::name::{Name, Spelling};
-use mc_num::Width;
 use crate::syntax;
 use crate::syntax::{Block, Function, Instr, Kind, Operand, Terminator};
+use mc_num::Width;
 use std::alloc::{AllocError, Global};
 
 impl Duplicate for u32 {

@@ -49,13 +49,7 @@ pub enum RawKind<'a> {
     Bin(Bin, Width, At<RawValue<'a>>, At<RawValue<'a>>),
     Icmp(Pred, Width, At<RawValue<'a>>, At<RawValue<'a>>),
     Cast(Cast, Width, At<RawValue<'a>>, At<Width>),
-    Select(
-        At<RawValue<'a>>,
-        Width,
-        At<RawValue<'a>>,
-        At<Width>,
-        At<RawValue<'a>>,
-    ),
+    Select(At<RawValue<'a>>, Width, At<RawValue<'a>>, At<Width>, At<RawValue<'a>>),
     Call(Ty, At<Spelling<'a>>, Items<RawArg<'a>>),
     Phi(Width, Items<(At<RawValue<'a>>, At<Name<'a>>)>),
 }

@@ -1,5 +1,4 @@
 use Rattle.std.proofs.Common.{codes, refl, ◌∙◌}
-use Rattle.ir_printer.specs.Text.{local_text}
 use Rattle.ir_printer.proofs.Appended.{last_put, step}
 use Rattle.ir_printer.proofs.printing.put_alloca.Goals as goal
 

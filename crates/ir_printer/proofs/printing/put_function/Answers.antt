@@ -1,5 +1,5 @@
 use Rattle.ir_printer.specs.Text.{main_text}
-use Rattle.ir_printer.proofs.Appended.{one_more, all_done}
+use Rattle.ir_printer.proofs.Appended.{one_more}
 use Rattle.ir_printer.proofs.printing.put_function.Goals as goal
 
 pub loop-block-preserved : goal.loop-block-preserved
