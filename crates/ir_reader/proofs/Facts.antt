@@ -168,8 +168,8 @@ pub function_facts : (m : Program) (f : Function) (first : IsFirstMain f) → Is
 function_facts m f first fits =
     let b = first.entry in
     let all_names : names f ≡ map (λ (x : Width × Name). x.1) [] ++ body_names (map (λ x. x.1) f.vars) (b ∷ []) =
-      ap (λ (ps : List (Width × Name)). map (λ x. x.1) ps ++ body_names (map (λ x. x.1) f.vars) f.blocks) first.params
-      ∙ ap (λ (bs : List Block). body_names (map (λ x. x.1) f.vars) bs) first.blocks in
+    ap (λ (ps : List (Width × Name)). map (λ x. x.1) ps ++ body_names (map (λ x. x.1) f.vars) f.blocks) first.params
+    ∙ ap (λ (bs : List Block). body_names (map (λ x. x.1) f.vars) bs) first.blocks in
     let Q : List Name → Type 0 = λ l. AllByRecursion IsSpellable l in
     let spellable = subst Q all_names (recursion_from_All IsSpellable (names f) fits.spellable) in
     let parts = split IsSpellable (map (λ x. x.1) f.vars) (result_names b ++ []) spellable.1 in

@@ -92,7 +92,7 @@ script_text label xs v =
     ap (λ (l : List ℕ). codes "define i32 @main() {\n" ++ l)
     (append_assoc label indented (text_of (lines_script xs (end_script v)))
     ∙ ap (λ (l : List ℕ). label ++ (codes "\n" ++ l))
-      (lines_are xs (end_script v) ∙ ap (λ (l : List ℕ). flat_map line_part xs ++ l) (end_is v)))
+    (lines_are xs (end_script v) ∙ ap (λ (l : List ℕ). flat_map line_part xs ++ l) (end_is v)))
 
 -- ---- the lines of a function
 

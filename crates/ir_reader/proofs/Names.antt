@@ -40,6 +40,7 @@ other_than test c fails (b ∷ bs) e = go (b == c) refl
   where
     same : b == c ≡ true → b ≡ c
     same h = grind arith
+
     go : (r : Bool) → b == c ≡ r → r ≡ false
     go true h = absurd (let x : test c ≡ true = subst (λ y. test y ≡ true) (same h) e in let f : true ≡ false = sym x ∙ fails in cc)
     go false h = refl
@@ -102,10 +103,11 @@ prefix_plain : (j : ℕ) (rest : List ℕ) → list_all is_name_byte rest ≡ tr
 prefix_plain j rest all =
     let P : List ℕ → Type 0 = λ l. is_plain_name (l ++ rest) ≡ true in
     chosen (j == 0) (codes "pre.") (codes "pre" ++ decimal j ++ codes ".") P
-      (λ e. rw (some_bytes 112 (codes "re." ++ rest)) all) (λ e. rw (some_bytes 112 (codes "re" ++ ((decimal j ++ codes ".") ++ rest))) behind)
+    (λ e. rw (some_bytes 112 (codes "re." ++ rest)) all) (λ e. rw (some_bytes 112 (codes "re" ++ ((decimal j ++ codes ".") ++ rest))) behind)
   where
     dotted : list_all is_name_byte (decimal j ++ codes ".") ≡ true
     dotted = list_all-append is_name_byte (decimal j) (codes ".") ∙ (rw (decimal_name_bytes j) refl)
+
     behind : list_all is_name_byte ((decimal j ++ codes ".") ++ rest) ≡ true
     behind = list_all-append is_name_byte (decimal j ++ codes ".") rest ∙ (rw (dotted, all) refl)
 
@@ -150,8 +152,8 @@ pub run_or_quoted : (n : Name) → IsSpellable n → IsRun is_name_byte (name_te
 run_or_quoted (Text bytes) is =
     let P : List ℕ → Type 0 = λ l. IsRun is_name_byte l ⊎ IsQuoted l in
     chosen (is_plain_name bytes) bytes (34 ∷ (bytes ++ 34 ∷ [])) P
-      (λ e. let h = plain_first bytes e in inl (h.0, h.2))
-      (λ e. inr (record { name = bytes; is = (is.some, is.quotable); spelled = refl }))
+    (λ e. let h = plain_first bytes e in inl (h.0, h.2))
+    (λ e. inr (record { name = bytes; is = (is.some, is.quotable); spelled = refl }))
 run_or_quoted (Number n) is = inl (decimal_some n, decimal_name_bytes n)
 run_or_quoted (MadeName j made) is = let h = plain_first (prefix j ++ parts made) (made_plain j made) in inl (h.0, h.2)
 
@@ -163,10 +165,13 @@ digits_number (b ∷ bs) some all = go (b == 45) refl
   where
     digit : is_digit b ≡ true
     digit = (both (is_digit b) (list_all is_digit bs) all).0
+
     same : b == 45 ≡ true → b ≡ 45
     same h = grind arith
+
     unsigned : b == 45 ≡ false → is_number (b ∷ bs) ≡ true
     unsigned e = rw (e, some_bytes b bs, all) refl
+
     go : (r : Bool) → b == 45 ≡ r → is_number (b ∷ bs) ≡ true
     go true h = absurd (let x : is_digit 45 ≡ true = subst (λ y. is_digit y ≡ true) (same h) digit in cc)
     go false h = unsigned h

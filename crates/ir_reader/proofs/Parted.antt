@@ -107,13 +107,33 @@ kind_parted : (k : KindText) (rest : List Inked) → IsKindText k → IsParted r
 kind_parted Alloca rest is parted = (is_alloca.0, is_alloca.1, refl, (refl, refl), (is_i32.0, is_i32.1, refl, (refl, refl), parted))
 kind_parted (Load a) rest is parted =
     (is_load.0, is_load.1, refl, (refl, refl), (is_i32.0, is_i32.1, refl, (refl, refl), address_parted a rest is parted))
-kind_parted (Store v a) rest is parted =
-    (is_store.0, is_store.1, refl, (refl, refl), (is_i32.0, is_i32.1, refl, (refl, refl),
-      value_parted v [] (address_script a rest) is.0 refl (refl, refl) (address_parted a rest is.1 parted)))
-kind_parted (Add v w) rest is parted =
-    (is_add.0, is_add.1, refl, (refl, refl), (is_i32.0, is_i32.1, refl, (refl, refl),
-      value_parted v [] (punct (codes ",") space ∷ value_ink w indented ∷ rest) is.0 refl (refl, refl)
-        (comma_is, tt, refl, tt, value_parted w indented rest is.1 refl (refl, refl) parted)))
+kind_parted (Store v a) rest is parted = (
+  is_store.0,
+  is_store.1,
+  refl,
+  (refl, refl),
+  (
+    is_i32.0,
+    is_i32.1,
+    refl,
+    (refl, refl),
+    value_parted v [] (address_script a rest) is.0 refl (refl, refl) (address_parted a rest is.1 parted),
+  ),
+)
+kind_parted (Add v w) rest is parted = (
+  is_add.0,
+  is_add.1,
+  refl,
+  (refl, refl),
+  (
+    is_i32.0,
+    is_i32.1,
+    refl,
+    (refl, refl),
+    value_parted v [] (punct (codes ",") space ∷ value_ink w indented ∷ rest) is.0 refl (refl, refl)
+        (comma_is, tt, refl, tt, value_parted w indented rest is.1 refl (refl, refl) parted),
+  ),
+)
 
 named_parted : (text : List ℕ) (k : KindText) (rest : List Inked) → IsText kinds.Local text → IsKindText k → IsParted rest → IsParted (result_script (Some text) (kind_script k rest))
 named_parted text k rest is kind parted = (is, tt, refl, (refl, refl), (equals_is, tt, refl, tt, kind_parted k rest kind parted))
@@ -133,9 +153,19 @@ lines_parted [] rest all parted = parted
 lines_parted (x ∷ xs) rest all parted = line_parted x.result x.kind (lines_script xs rest) all.0 (lines_parted xs rest all.1 parted)
 
 end_parted : (v : ValueText) → IsValueText v → IsParted (end_script v)
-end_parted v is =
-    (is_ret.0, is_ret.1, refl, (refl, refl), (is_i32.0, is_i32.1, refl, (refl, refl),
-      value_parted v line (punct (codes "}") line ∷ []) is refl (refl, refl) (brace_is, tt, refl, tt, tt)))
+end_parted v is = (
+  is_ret.0,
+  is_ret.1,
+  refl,
+  (refl, refl),
+  (
+    is_i32.0,
+    is_i32.1,
+    refl,
+    (refl, refl),
+    value_parted v line (punct (codes "}") line ∷ []) is refl (refl, refl) (brace_is, tt, refl, tt, tt),
+  ),
+)
 
 main_is : IsText kinds.Global (codes "@main")
 main_is = record { name = codes "main"; is = inr (inl refl); spelled = refl }
@@ -150,9 +180,25 @@ begin_is : IsText kinds.Punct (codes "{")
 begin_is = record { mark = 123; is = refl; spelled = refl }
 
 pub script_parted : (label : List ℕ) (xs : List LineText) (v : ValueText) → IsText kinds.Label label → AreLines xs → IsValueText v → IsParted (script label xs v)
-script_parted label xs v is all value =
-    (is_define.0, is_define.1, refl, (refl, refl), (is_i32.0, is_i32.1, refl, (refl, refl), (main_is, tt, refl, (refl, refl),
-      (open_is, tt, refl, tt, (close_is, tt, refl, tt, (begin_is, tt, refl, tt, (is, tt, refl, tt, lines_parted xs (end_script v) all (end_parted v value))))))))
+script_parted label xs v is all value = (
+  is_define.0,
+  is_define.1,
+  refl,
+  (refl, refl),
+  (
+    is_i32.0,
+    is_i32.1,
+    refl,
+    (refl, refl),
+    (
+      main_is,
+      tt,
+      refl,
+      (refl, refl),
+      (open_is, tt, refl, tt, (close_is, tt, refl, tt, (begin_is, tt, refl, tt, (is, tt, refl, tt, lines_parted xs (end_script v) all (end_parted v value))))),
+    ),
+  ),
+)
 
 -- ---- the lines of a function
 

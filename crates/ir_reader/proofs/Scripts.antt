@@ -63,8 +63,8 @@ end_script v = word (codes "ret") space ∷ word (codes "i32") space ∷ value_i
 
 abbrev pub script : List ℕ → List LineText → ValueText → List Inked
 script label xs v =
-  word (codes "define") space ∷ word (codes "i32") space ∷ ink kinds.Global (codes "@main") [] ∷ punct (codes "(") [] ∷ punct (codes ")") space ∷ punct (codes "{") line
-  ∷ ink kinds.Label label indented ∷ lines_script xs (end_script v)
+    word (codes "define") space ∷ word (codes "i32") space ∷ ink kinds.Global (codes "@main") [] ∷ punct (codes "(") [] ∷ punct (codes ")") space ∷ punct (codes "{") line
+    ∷ ink kinds.Label label indented ∷ lines_script xs (end_script v)
 
 abbrev pub value_part : ValueText → List ℕ
 value_part (Named text) = text

@@ -90,42 +90,66 @@ unfolding instr giving alloca load store add value place
 line_is_read (Some r) Alloca spans rest is = record {
   tree = named_at r (spans 0) (spans 2) (forms.Alloca I32);
   behind = λ n. spans (suc (suc (suc (suc n))));
-  next = refl; reads = refl; result = (at (local_name r) (spans 0), refl, refl); kind = refl;
+  next = refl;
+  reads = refl;
+  result = (at (local_name r) (spans 0), refl, refl);
+  kind = refl;
 }
 line_is_read (Some r) (Load a) spans rest is = record {
   tree = named_at r (spans 0) (spans 2) (forms.Load I32 (place_at a (spans 6)));
   behind = λ n. spans (suc (suc (suc (suc (suc (suc (suc n)))))));
-  next = refl; reads = refl; result = (at (local_name r) (spans 0), refl, refl); kind = (place_at a (spans 6), refl, refl);
+  next = refl;
+  reads = refl;
+  result = (at (local_name r) (spans 0), refl, refl);
+  kind = (place_at a (spans 6), refl, refl);
 }
 line_is_read None (Store (Named v) a) spans rest is = record {
   tree = record { result = None; word = spans 0; kind = forms.Store I32 (local_at v (spans 2)) (place_at a (spans 5)) };
   behind = λ n. spans (suc (suc (suc (suc (suc (suc n))))));
-  next = refl; reads = refl; result = refl; kind = (local_at v (spans 2), place_at a (spans 5), refl, refl, refl);
+  next = refl;
+  reads = refl;
+  result = refl;
+  kind = (local_at v (spans 2), place_at a (spans 5), refl, refl, refl);
 }
 line_is_read None (Store (Counted v) a) spans rest is = record {
   tree = record { result = None; word = spans 0; kind = forms.Store I32 (number_at v (spans 2)) (place_at a (spans 5)) };
   behind = λ n. spans (suc (suc (suc (suc (suc (suc n))))));
-  next = refl; reads = refl; result = refl; kind = (number_at v (spans 2), place_at a (spans 5), refl, refl, refl);
+  next = refl;
+  reads = refl;
+  result = refl;
+  kind = (number_at v (spans 2), place_at a (spans 5), refl, refl, refl);
 }
 line_is_read (Some r) (Add (Named v) (Named w)) spans rest is = record {
   tree = named_at r (spans 0) (spans 2) (forms.Bin AddOperation I32 (local_at v (spans 4)) (local_at w (spans 6)));
   behind = λ n. spans (suc (suc (suc (suc (suc (suc (suc n)))))));
-  next = refl; reads = refl; result = (at (local_name r) (spans 0), refl, refl); kind = (local_at v (spans 4), local_at w (spans 6), refl, refl, refl);
+  next = refl;
+  reads = refl;
+  result = (at (local_name r) (spans 0), refl, refl);
+  kind = (local_at v (spans 4), local_at w (spans 6), refl, refl, refl);
 }
 line_is_read (Some r) (Add (Named v) (Counted w)) spans rest is = record {
   tree = named_at r (spans 0) (spans 2) (forms.Bin AddOperation I32 (local_at v (spans 4)) (number_at w (spans 6)));
   behind = λ n. spans (suc (suc (suc (suc (suc (suc (suc n)))))));
-  next = refl; reads = refl; result = (at (local_name r) (spans 0), refl, refl); kind = (local_at v (spans 4), number_at w (spans 6), refl, refl, refl);
+  next = refl;
+  reads = refl;
+  result = (at (local_name r) (spans 0), refl, refl);
+  kind = (local_at v (spans 4), number_at w (spans 6), refl, refl, refl);
 }
 line_is_read (Some r) (Add (Counted v) (Named w)) spans rest is = record {
   tree = named_at r (spans 0) (spans 2) (forms.Bin AddOperation I32 (number_at v (spans 4)) (local_at w (spans 6)));
   behind = λ n. spans (suc (suc (suc (suc (suc (suc (suc n)))))));
-  next = refl; reads = refl; result = (at (local_name r) (spans 0), refl, refl); kind = (number_at v (spans 4), local_at w (spans 6), refl, refl, refl);
+  next = refl;
+  reads = refl;
+  result = (at (local_name r) (spans 0), refl, refl);
+  kind = (number_at v (spans 4), local_at w (spans 6), refl, refl, refl);
 }
 line_is_read (Some r) (Add (Counted v) (Counted w)) spans rest is = record {
   tree = named_at r (spans 0) (spans 2) (forms.Bin AddOperation I32 (number_at v (spans 4)) (number_at w (spans 6)));
   behind = λ n. spans (suc (suc (suc (suc (suc (suc (suc n)))))));
-  next = refl; reads = refl; result = (at (local_name r) (spans 0), refl, refl); kind = (number_at v (spans 4), number_at w (spans 6), refl, refl, refl);
+  next = refl;
+  reads = refl;
+  result = (at (local_name r) (spans 0), refl, refl);
+  kind = (number_at v (spans 4), number_at w (spans 6), refl, refl, refl);
 }
 line_is_read None Alloca spans rest is = absurd is
 line_is_read None (Load a) spans rest is = absurd is
@@ -223,6 +247,7 @@ spread (t ∷ ts) (i ∷ is) e =
   where
     heads_are : (a b : Bare) (xs ys : List Bare) → a ∷ xs ≡ b ∷ ys → (a ≡ b) × (xs ≡ ys)
     heads_are a b xs ys e = (cc, cc)
+
     cons_is : {a b : Lexeme} {xs ys : List Lexeme} → a ≡ b → xs ≡ ys → a ∷ xs ≡ b ∷ ys
     cons_is e f = cc
 

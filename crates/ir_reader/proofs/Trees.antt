@@ -56,8 +56,10 @@ signed_back n = go (nat_lt n (2 ^ 31)) refl
   where
     small : nat_lt n (2 ^ 31) ≡ true → n < 2 ^ 31
     small e = grind arith
+
     fits : (k : ℕ) → k < 2 ^ 127 → nat_lt k (2 ^ 127) ≡ true
     fits k lt = grind arith
+
     go : (b : Bool) → nat_lt n (2 ^ 31) ≡ b → literal (signed_decimal (cond b (pos n) (negsuc (2 ^ 32 - (n + 1))))) ≡ values.Number (cond b (pos n) (negsuc (2 ^ 32 - (n + 1))))
     go true e = literal_back (pos n) (let lt = small e in rw (fits n (omega arith)) refl) (number_of_back n (let lt = small e in omega arith))
     go false e = literal_back (negsuc (2 ^ 32 - (n + 1))) (rw (fits (2 ^ 32 - (n + 1)) (omega arith)) refl) (negative_back (2 ^ 32 - (n + 1)) (omega arith))
@@ -151,12 +153,12 @@ module_tree m first raw facts put returned whole =
     let x = whole.entry in
     let split = parts IsReadLine (map line_of_var f.vars) (map (line_of f b) b.instrs) x.instrs whole.lines in
     let label : IsTreeResult (Some b.name) x.label =
-      let P : Option (At Name) → Type 0 = λ w. IsTreeResult (Some b.name) w in
-      subst P (sym whole.label) (whole.labelled ∙ ap Rattle.ir_parser.specs.Words.name_of (label_back (name_text b.name)) ∙ name_back b.name facts.label) in
+    let P : Option (At Name) → Type 0 = λ w. IsTreeResult (Some b.name) w in
+    subst P (sym whole.label) (whole.labelled ∙ ap Rattle.ir_parser.specs.Words.name_of (label_back (name_text b.name)) ∙ name_back b.name facts.label) in
     let term : IsTreeTerm b b.term x.term =
-      let P : RawTerm → Type 0 = λ t. IsTreeTerm b b.term t in
-      let Q : Terminator → Type 0 = λ t. IsTreeTerm b t (terms.Return (Some (I32, whole.value))) in
-      subst P (sym whole.term) (subst Q (sym first.first.ends) (refl, value_tree b v whole.value returned whole.value_is)) in
+    let P : RawTerm → Type 0 = λ t. IsTreeTerm b b.term t in
+    let Q : Terminator → Type 0 = λ t. IsTreeTerm b t (terms.Return (Some (I32, whole.value))) in
+    subst P (sym whole.term) (subst Q (sym first.first.ends) (refl, value_tree b v whole.value returned whole.value_is)) in
     let block : IsTreeBlock f b x = record {
       label = label;
       allocas = split.front;

@@ -6,8 +6,8 @@ ghost use Rattle.ir_types.specs.FirstForm.{IsFirstModule, IsWithinLimits};
 ghost use Rattle.ir_reader.specs.Reading.{IsFirstForm, IsReadAs, Reads, ReadsBack};
 ghost use Rattle.ir_reader.specs.Causes.{cause_of_lex, cause_of_parse, cause_of_check};
 
-use ir_check::{CheckError, check, checked_modules};
 use crate::laws::reads_back;
+use ir_check::{CheckError, check, checked_modules};
 use ir_lexer::{LexError, end_of, lex};
 use ir_parser::{ParseError, parse};
 use ir_types::module::Module;

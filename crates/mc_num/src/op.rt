@@ -104,13 +104,7 @@ pub fn arg_width(op: Op, i: usize) -> Width
 {
     match op {
         Op::Bin(_, width) | Op::Icmp(_, width) | Op::Cast(_, width, _) => width,
-        Op::Select(width) => {
-            if i == 0 {
-                Width::I1
-            } else {
-                width
-            }
-        }
+        Op::Select(width) => { if i == 0 { Width::I1 } else { width } }
     }
 }
 

@@ -14,4 +14,4 @@ returns-clause-ends g c =
       back = c.in_ok-module.ensures.back;
     } in
     ended c.args.input.now c.args.output.now c.deref-2.result.now (state c.args.host.now) (state c.read_short.new.host) (state c.write_text.new.host)
-      prints c.read_short.ensures.rest c.write_text.result c.write_text.ensures.written c.write_text.ensures.stops c.write_text.ensures.part
+    prints c.read_short.ensures.rest c.write_text.result c.write_text.ensures.written c.write_text.ensures.stops c.write_text.ensures.part
