@@ -1,9 +1,8 @@
 -- The canonical text of a module of the first form reads back.
-use Rattle.std.proofs.Common.{◌≡◌, ℕ, List, [], ◌∷◌, ◌++◌, map, Option, Some, None, Ok, refl, sym, ap, subst, ◌∙◌, codes}
+use Rattle.std.proofs.Common.{◌≡◌, ℕ, List, [], ◌∷◌, ◌++◌, map, Option, Some, None, refl, sym, ap, subst, ◌∙◌, codes}
 use Rattle.std.specs.Prelude.{All, option_map}
 use Rattle.std.specs.Option.{option_map_or}
 use Rattle.std.specs.List.{flat_map, AllByRecursion}
-use Rattle.std.specs.Fmt.{signed_decimal}
 use Rattle.std.proofs.lemmas.List.{append-nil}
 use Rattle.mc_num.specs.declared.op.Width.{Width}
 use Rattle.mc_num.specs.declared.op.Width.TheVariants.{I32}
@@ -12,8 +11,8 @@ use Rattle.mc_num.specs.declared.op.Op.TheVariants.{Bin, Icmp, Cast, Select}
 use Rattle.ir_types.specs.Names.{IsSpellable, name_text}
 use Rattle.ir_types.specs.Program.{Program}
 use Rattle.ir_types.specs.WellFormed.{scope, IsWellFormed}
-use Rattle.ir_types.specs.FirstForm.{IsFirstMain, IsFirstModule, IsWithinLimits}
-use Rattle.ir_types.specs.TreeOf.{signed, register_name, IsTreeOf}
+use Rattle.ir_types.specs.FirstForm.{IsFirstModule, IsWithinLimits}
+use Rattle.ir_types.specs.TreeOf.{signed, IsTreeOf}
 use Rattle.ir_types.specs.declared.name.Name.{Name}
 use Rattle.ir_types.specs.declared.syntax.Operand.{Operand}
 use Rattle.ir_types.specs.declared.syntax.Operand.TheVariants.{Const, Param, Reg}
@@ -26,17 +25,17 @@ use Rattle.ir_types.specs.declared.syntax.Block.{Block}
 use Rattle.ir_types.specs.declared.syntax.Function.{Function}
 use Rattle.ir_types.specs.declared.tree.Raw.{Raw}
 use Rattle.ir_lexer.specs.Texts.{Inked, IsText, IsParted, LexesBack, text_of as script_text_of}
-use Rattle.ir_lexer.specs.Tokens.{Lexing, tokens_of}
+use Rattle.ir_lexer.specs.Tokens.{tokens_of}
 use Rattle.ir_lexer.specs.declared.token.TokenKind.TheVariants as kinds
 use Rattle.ir_printer.specs.Text.{local_text, variable_text, value_text, main_text, text_of}
 use Rattle.module_trees.specs.Meant.{MeansModule}
 use Rattle.ir_reader.specs.Reading.{Reads, ReadsBack}
 use Rattle.ir_reader.proofs.Names.{number_is}
-use Rattle.ir_reader.proofs.Scripts.{ValueText, Named, Counted, KindText, Alloca, Load, Store, Add, LineText, script}
-use Rattle.ir_reader.proofs.Lines.{value_of, operands_of, kind_of, line_of, line_of_var, lines_of, IsPutValue, IsPutVariable, ArePutOperands, IsPutNamed, IsPut, main_script}
-use Rattle.ir_reader.proofs.Parted.{IsValueText, IsKindText, IsLine, AreLines, local_is, label_is, script_parted}
+use Rattle.ir_reader.proofs.Scripts.{LineText, script}
+use Rattle.ir_reader.proofs.Lines.{value_of, operands_of, kind_of, line_of, line_of_var, lines_of, IsPutValue, IsPutVariable, ArePutOperands, IsPut, main_script}
+use Rattle.ir_reader.proofs.Parted.{IsValueText, IsLine, AreLines, local_is, label_is, script_parted}
 use Rattle.ir_reader.proofs.Spelled.{spells_script}
-use Rattle.ir_reader.proofs.Facts.{Facts, module_facts, all_put, put_returned}
+use Rattle.ir_reader.proofs.Facts.{module_facts, all_put, put_returned}
 use Rattle.ir_reader.proofs.Trees.{module_tree}
 
 -- ---- the lines are ones that can be read

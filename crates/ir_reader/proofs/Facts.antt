@@ -1,23 +1,21 @@
 -- What the rules of a module say of the parts that are printed.
-use Rattle.std.proofs.Common.{◌≡◌, ℕ, suc, zero, ◌<◌, ◌↔◌, List, [], ◌∷◌, ◌++◌, length, map, take, get_or, Option, Some, None, IsSome, refl, sym, ap, subst, ◌∙◌, arith, codes}
+use Rattle.std.proofs.Common.{◌≡◌, ℕ, suc, zero, ◌↔◌, List, [], ◌∷◌, ◌++◌, map, take, get_or, Option, Some, None, IsSome, refl, sym, ap, subst, ◌∙◌}
 use Rattle.std.specs.Prelude.{IsSomeAnd, IfSome, slice_get, option_and_then, filter_map, All}
 use Rattle.std.specs.List.{AllZip, AllByRecursion, cons_option}
-use Rattle.std.proofs.lemmas.List.Elements.{All-from_recursion, recursion_from_All}
+use Rattle.std.proofs.lemmas.List.Elements.{recursion_from_All}
 use Rattle.std.proofs.lemmas.Option.{slice_get-get_or}
 use Rattle.mc_num.specs.declared.op.Width.{Width}
 use Rattle.mc_num.specs.declared.op.Width.TheVariants.{I32}
 use Rattle.mc_num.specs.declared.op.Bin.TheVariants.{Add as AddOperation}
-use Rattle.mc_num.specs.declared.op.Op.{Op}
 use Rattle.mc_num.specs.declared.op.Op.TheVariants.{Bin, Icmp, Cast, Select}
 use Rattle.ir_types.specs.Names.{IsSpellable}
 use Rattle.ir_types.specs.Program.{Program}
-use Rattle.ir_types.specs.WellFormed.{Scope, scope, widths, given_by, HasWidth, Fits, Ends, IsNamed, IsBlockIn, IsFunctionIn, IsWellFormed, names, body_names, block_names, result_names}
+use Rattle.ir_types.specs.WellFormed.{Scope, scope, widths, given_by, HasWidth, Fits, Ends, IsNamed, IsBlockIn, IsFunctionIn, IsWellFormed, names, body_names, result_names}
 use Rattle.ir_types.specs.FirstForm.{IsFirstKind, IsFirstMain, IsFirstModule}
 use Rattle.ir_types.specs.TreeOf.{register_name}
 use Rattle.ir_types.specs.declared.name.Name.{Name}
 use Rattle.ir_types.specs.declared.syntax.Operand.{Operand}
 use Rattle.ir_types.specs.declared.syntax.Operand.TheVariants.{Const, Param, Reg}
-use Rattle.ir_types.specs.declared.syntax.Variable.{Variable}
 use Rattle.ir_types.specs.declared.syntax.Variable.TheVariants.{Local, Global}
 use Rattle.ir_types.specs.declared.syntax.Kind.{Kind}
 use Rattle.ir_types.specs.declared.syntax.Kind.TheVariants.{Load, Store, Compute, Call}

@@ -1,13 +1,11 @@
 -- The canonical text of a module is that of its script.
 use Rattle.std.proofs.Common.{◌≡◌, ℕ, List, [], ◌∷◌, ◌++◌, Option, Some, None, map, refl, sym, ap, ◌∙◌, codes, append_assoc}
-use Rattle.std.specs.Prelude.{option_map, slice_get, option_and_then}
-use Rattle.std.specs.Option.{option_map_or}
+use Rattle.std.specs.Prelude.{option_map, slice_get}
 use Rattle.std.specs.List.{flat_map, AllByRecursion}
 use Rattle.std.specs.Fmt.{signed_decimal}
 use Rattle.mc_num.specs.declared.op.Width.{Width}
 use Rattle.mc_num.specs.declared.op.Width.TheVariants.{I32}
 use Rattle.mc_num.specs.declared.op.Bin.TheVariants.{Add as AddOperation}
-use Rattle.mc_num.specs.declared.op.Op.{Op}
 use Rattle.mc_num.specs.declared.op.Op.TheVariants.{Bin, Icmp, Cast, Select}
 use Rattle.ir_types.specs.Names.{IsSpellable, name_text}
 use Rattle.ir_types.specs.TreeOf.{signed, register_name}

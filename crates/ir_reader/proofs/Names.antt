@@ -1,5 +1,5 @@
 -- Names and numbers as they are spelled and read.
-use Rattle.std.proofs.Common.{◌≡◌, ◌≢◌, ℕ, zero, suc, ℤ, pos, negsuc, ◌+◌, ◌-◌, ◌^◌, ◌<◌, ◌≤◌, ◌&&◌, ◌||◌, ◌==◌, nat_lt, not, Bool, true, false, cond, List, [], ◌∷◌, ◌++◌, length, take, drop, min, refl, sym, ap, subst, ◌∙◌, ◌⊎◌, inl, inr, arith, codes, IsTrue}
+use Rattle.std.proofs.Common.{◌≡◌, ℕ, suc, ℤ, pos, negsuc, ◌+◌, ◌-◌, ◌^◌, ◌<◌, ◌&&◌, ◌==◌, not, Bool, true, false, cond, List, [], ◌∷◌, ◌++◌, length, take, min, refl, sym, ap, subst, ◌∙◌, ◌⊎◌, inl, inr, arith, codes}
 use Rattle.std.specs.List.{list_all}
 use Rattle.std.specs.Fmt.{decimal, signed_decimal}
 use Rattle.std.specs.Str.Parse.{digits_value}
@@ -8,7 +8,7 @@ use Rattle.std.proofs.lemmas.List.{take_at, length-append}
 use Rattle.std.proofs.lemmas.List.Folds.{list_all-append}
 use Rattle.ir_types.proofs.Decimals.{decimal_some, decimal_digits, decimal_name_bytes}
 use Rattle.ir_types.specs.Bytes.{heads, is_digit, is_name_byte, is_plain_name}
-use Rattle.ir_types.specs.Names.{spelled, prefix, parts, IsNameText, IsSpellable, no_number, quoted_text, name_text}
+use Rattle.ir_types.specs.Names.{spelled, prefix, parts, IsSpellable, no_number, quoted_text, name_text}
 use Rattle.ir_types.specs.declared.name.Made.{Made}
 use Rattle.ir_types.specs.declared.name.Made.TheVariants.{Temp, Sum, Operand, Split}
 use Rattle.ir_types.specs.declared.name.Name.{Name}

@@ -1,10 +1,9 @@
 -- A text means one module at most.
-use Rattle.std.proofs.Common.{◌≡◌, ℕ, List, Result, Ok, Err, refl, sym, ap, subst, ◌∙◌}
+use Rattle.std.proofs.Common.{◌≡◌, ℕ, List, Result, Ok, Err, sym, ap, subst, ◌∙◌}
 use Rattle.std.specs.Prelude.{IfOk}
 use Rattle.std.specs.Result.{IsErrOf}
 use Rattle.ir_types.specs.Program.{Program}
 use Rattle.ir_types.specs.ModuleOf.{module_of}
-use Rattle.ir_types.specs.declared.tree.Raw.{Raw}
 use Rattle.ir_lexer.specs.Lexeme.{Lexeme}
 use Rattle.ir_lexer.specs.Tokens.{Lexing}
 use Rattle.grammar.specs.Grammar.{SpellsAll, IsDetermined}

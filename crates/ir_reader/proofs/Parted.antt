@@ -1,32 +1,14 @@
 -- A script keeps its tokens apart.
-use Rattle.std.proofs.Common.{◌≡◌, ℕ, ◌<◌, Bool, true, false, List, [], ◌∷◌, ◌++◌, length, map, Option, Some, None, refl, arith, codes, lit<, inl, inr, IsTrue, IsFalse}
-use Rattle.std.specs.Prelude.{option_map}
+use Rattle.std.proofs.Common.{ℕ, List, [], ◌∷◌, ◌++◌, Option, Some, None, refl, codes, lit<, inl, inr, IsTrue}
 use Rattle.std.specs.List.{list_all, AllByRecursion}
-use Rattle.std.specs.Fmt.{signed_decimal}
-use Rattle.mc_num.specs.declared.op.Width.{Width}
-use Rattle.mc_num.specs.declared.op.Width.TheVariants.{I32}
-use Rattle.mc_num.specs.declared.op.Bin.TheVariants.{Add as AddOperation}
-use Rattle.mc_num.specs.declared.op.Op.TheVariants.{Bin, Icmp, Cast, Select}
 use Rattle.ir_types.specs.Bytes.{is_blank}
 use Rattle.ir_types.specs.Names.{IsSpellable, name_text}
-use Rattle.ir_types.specs.TreeOf.{signed, register_name}
 use Rattle.ir_types.specs.declared.name.Name.{Name}
-use Rattle.ir_types.specs.declared.syntax.Operand.{Operand}
-use Rattle.ir_types.specs.declared.syntax.Operand.TheVariants.{Const, Param, Reg}
-use Rattle.ir_types.specs.declared.syntax.Variable.{Variable}
-use Rattle.ir_types.specs.declared.syntax.Variable.TheVariants.{Local, Global}
-use Rattle.ir_types.specs.declared.syntax.Kind.{Kind}
-use Rattle.ir_types.specs.declared.syntax.Kind.TheVariants as forms
-use Rattle.ir_types.specs.declared.syntax.Instr.{Instr}
-use Rattle.ir_types.specs.declared.syntax.Block.{Block}
-use Rattle.ir_types.specs.declared.syntax.Function.{Function}
 use Rattle.ir_lexer.specs.Texts.{Inked, IsText, IsKept, Ends, IsParted, text_of}
-use Rattle.ir_lexer.specs.declared.token.TokenKind.{TokenKind}
 use Rattle.ir_lexer.specs.declared.token.TokenKind.TheVariants as kinds
-use Rattle.ir_printer.specs.Text.{local_text, variable_text, value_text}
-use Rattle.ir_reader.proofs.Names.{name_is, run_or_quoted, number_is}
-use Rattle.ir_reader.proofs.Scripts.{ValueText, Named, Counted, KindText, Alloca, Load, Store, Add, LineText, ink, space, line, indented, word, punct, local, value_ink, kind_script, result_script, lines_script, end_script, script}
-use Rattle.ir_reader.proofs.Lines.{value_of, operands_of, kind_of, line_of, line_of_var, lines_of, IsPutValue, IsPutVariable, ArePutOperands, IsPutNamed, IsPut}
+use Rattle.ir_printer.specs.Text.{local_text}
+use Rattle.ir_reader.proofs.Names.{name_is, run_or_quoted}
+use Rattle.ir_reader.proofs.Scripts.{ValueText, Named, Counted, KindText, Alloca, Load, Store, Add, LineText, space, line, indented, word, punct, local, value_ink, kind_script, result_script, lines_script, end_script, script}
 
 -- ---- what a line of texts asks
 

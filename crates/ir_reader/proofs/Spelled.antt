@@ -1,5 +1,5 @@
 -- The tokens of a script spell its tree.
-use Rattle.std.proofs.Common.{◌≡◌, ℕ, suc, zero, ◌<◌, Bool, true, false, List, [], ◌∷◌, length, map, Option, Some, None, Result, Ok, Err, refl, sym, ap, subst, ◌∙◌, arith, codes}
+use Rattle.std.proofs.Common.{◌≡◌, ℕ, suc, zero, true, false, List, [], ◌∷◌, map, Option, Some, None, Ok, refl, sym, ap, subst, ◌∙◌, codes}
 use Rattle.std.specs.List.{AllZip}
 use Rattle.mc_num.specs.declared.op.Width.TheVariants.{I32}
 use Rattle.mc_num.specs.declared.op.Bin.TheVariants.{Add as AddOperation}
@@ -19,8 +19,6 @@ use Rattle.ir_types.specs.declared.tree.Raw.{Raw}
 use Rattle.ir_types.specs.declared.tree.Ty.TheVariants.{Int}
 use Rattle.ir_lexer.specs.Lexeme.{Lexeme}
 use Rattle.ir_lexer.specs.Texts.{Bare, bare, Inked}
-use Rattle.ir_lexer.specs.declared.token.TokenKind.{TokenKind}
-use Rattle.ir_lexer.specs.declared.token.TokenKind.TheVariants as kinds
 use Rattle.grammar.specs.Grammar.{is_next, repeated, SpellsAll}
 use Rattle.grammar.specs.Reading.{Reading, ◌>>=◌, read}
 use Rattle.grammar.proofs.Rows.{read_is, read_more, read_ends}

@@ -1,6 +1,6 @@
 -- The tree that a script spells is the tree of its module.
-use Rattle.std.proofs.Common.{◌≡◌, ℕ, suc, zero, ℤ, pos, negsuc, ◌+◌, ◌-◌, ◌^◌, ◌<◌, ◌≤◌, nat_lt, Bool, true, false, cond, List, [], ◌∷◌, ◌++◌, length, map, Option, Some, None, refl, sym, ap, subst, ◌∙◌, arith, codes}
-use Rattle.std.specs.Prelude.{option_map, slice_get}
+use Rattle.std.proofs.Common.{◌≡◌, ℕ, pos, negsuc, ◌+◌, ◌-◌, ◌^◌, ◌<◌, nat_lt, Bool, true, false, cond, List, [], ◌∷◌, ◌++◌, map, Option, Some, None, refl, sym, ap, subst, ◌∙◌, arith, codes}
+use Rattle.std.specs.Prelude.{option_map}
 use Rattle.std.specs.Option.{option_map_or}
 use Rattle.std.specs.List.{AllZip, AllByRecursion}
 use Rattle.std.specs.Fmt.{signed_decimal}
@@ -10,9 +10,9 @@ use Rattle.mc_num.specs.declared.op.Bin.TheVariants.{Add as AddOperation}
 use Rattle.mc_num.specs.declared.op.Op.TheVariants.{Bin, Icmp, Cast, Select}
 use Rattle.ir_types.specs.Names.{spelled, IsSpellable, name_text}
 use Rattle.ir_types.specs.Program.{Program}
-use Rattle.ir_types.specs.WellFormed.{scope, IsWellFormed}
-use Rattle.ir_types.specs.FirstForm.{IsFirstMain, IsFirstModule}
-use Rattle.ir_types.specs.TreeOf.{signed, register_name, IsTreeValue, IsTreeAddress, AreTreeOperands, IsTreeKind, IsTreeResult, IsTreeInstr, IsTreeAlloca, IsTreeTerm, IsTreeBlock, IsTreeFunction, IsTreeOf}
+use Rattle.ir_types.specs.WellFormed.{scope}
+use Rattle.ir_types.specs.FirstForm.{IsFirstModule}
+use Rattle.ir_types.specs.TreeOf.{signed, IsTreeValue, IsTreeAddress, IsTreeKind, IsTreeResult, IsTreeInstr, IsTreeAlloca, IsTreeTerm, IsTreeBlock, IsTreeFunction, IsTreeOf}
 use Rattle.ir_types.specs.declared.span.At.{At}
 use Rattle.ir_types.specs.declared.name.Name.{Name}
 use Rattle.ir_types.specs.declared.syntax.Operand.{Operand}
@@ -23,7 +23,6 @@ use Rattle.ir_types.specs.declared.syntax.Kind.{Kind}
 use Rattle.ir_types.specs.declared.syntax.Kind.TheVariants as kinds
 use Rattle.ir_types.specs.declared.syntax.Instr.{Instr}
 use Rattle.ir_types.specs.declared.syntax.Terminator.{Terminator}
-use Rattle.ir_types.specs.declared.syntax.Terminator.TheVariants.{Return}
 use Rattle.ir_types.specs.declared.syntax.Block.{Block}
 use Rattle.ir_types.specs.declared.syntax.Function.{Function}
 use Rattle.ir_types.specs.declared.tree.Ty.TheVariants.{Int}
@@ -35,15 +34,12 @@ use Rattle.ir_types.specs.declared.tree.RawKind.{RawKind}
 use Rattle.ir_types.specs.declared.tree.RawInstr.{RawInstr}
 use Rattle.ir_types.specs.declared.tree.RawTerm.{RawTerm}
 use Rattle.ir_types.specs.declared.tree.RawTerm.TheVariants as terms
-use Rattle.ir_types.specs.declared.tree.RawBlock.{RawBlock}
-use Rattle.ir_types.specs.declared.tree.RawFunction.{RawFunction}
 use Rattle.ir_types.specs.declared.tree.Raw.{Raw}
 use Rattle.ir_parser.specs.Words.{local_name, label_name, literal}
 use Rattle.ir_printer.specs.Text.{local_text, variable_text, value_text}
 use Rattle.ir_reader.proofs.Names.{name_back, label_back, literal_back, number_of_back, negative_back}
-use Rattle.ir_reader.proofs.Scripts.{ValueText, Named, Counted, KindText, Alloca, Load, Store, Add, LineText}
 use Rattle.ir_reader.proofs.Lines.{value_of, operands_of, kind_of, line_of, line_of_var, lines_of, IsPutValue, IsPutVariable, ArePutOperands, IsPutNamed, IsPut}
-use Rattle.ir_reader.proofs.Spelled.{IsReadValue, IsReadPlace, IsReadKind, IsReadResult, IsReadLine, IsReadWhole, tree_with}
+use Rattle.ir_reader.proofs.Spelled.{IsReadValue, IsReadPlace, IsReadKind, IsReadResult, IsReadLine, IsReadWhole}
 use Rattle.ir_reader.proofs.Facts.{Facts}
 
 -- ---- values and addresses

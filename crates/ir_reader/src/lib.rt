@@ -3,6 +3,8 @@
 
 mod laws;
 mod reading;
+#[cfg(test)]
+mod tests;
 
 pub use laws::{one_module, reads_back};
 pub use reading::{ReadError, read};

@@ -67,6 +67,7 @@ fn first_form<'a>(alloc: Global, source: &'a [u8]) -> Result<Module<'a>, ReadErr
 {
     let tokens = lex(alloc, source)?;
     let tree = parse(alloc, &tokens, end_of(source))?;
+    drop(tokens);
     let program = check(alloc, &tree)?;
     checked_modules();
     reads_back();
