@@ -1,9 +1,8 @@
 -- How `print` ends where it came to write.
-use Rattle.std.proofs.Common.{◌≡◌, ◌⊎◌, ℕ, List, Ok, Err, Some, IsTrue, OnOk, OnErr, inl, inr, sym, ap, subst, ◌∙◌}
+use Rattle.std.proofs.Common.{◌≡◌, ℕ, List, Ok, Err, Some, IsTrue, OnOk, OnErr, inl, inr, ap, subst, ◌∙◌}
 use Rattle.std.specs.Prelude.{IfErr}
 use Rattle.mc_host.specs.Faults.{Rose}
-use Rattle.mc_host.specs.Host.{HostState, OnlyReads, OnlyWrites, IsBeforeOrPart}
-use Rattle.top_call.specs.declared.ending.Stop.{Stop}
+use Rattle.mc_host.specs.Host.{HostState, OnlyReads, IsBeforeOrPart}
 use Rattle.top_call.specs.declared.ending.Stop.TheVariants.{Usage, Refused, ReadFault, WriteFault, OutOfMemory}
 use Rattle.top_call.specs.Ending.{Ending}
 use Rattle.top_call.specs.Print.{PrintsAs, PrintEnds}
