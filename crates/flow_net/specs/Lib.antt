@@ -1,0 +1,4 @@
+pub mod Network
+pub mod Levels
+pub mod Laws
+pub mod Incidence

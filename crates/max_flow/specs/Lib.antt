@@ -1,0 +1,3 @@
+pub mod Path
+pub mod Working
+pub mod Marking
