@@ -1,0 +1,5 @@
+pub mod Below
+pub mod Ends
+pub mod Meeting
+pub mod Settling
+pub mod WrittenBack
