@@ -138,3 +138,7 @@ of_lexemes P (t ∷ ts) all = (all.0, of_lexemes P ts all.1)
 
 pub all_tokens : (P : Lexeme → Type 0) (r : Lexing) (ts : List Token) → Each P r → r ≡ Ok (map lexeme ts) → All (λ t. P (lexeme t)) ts
 all_tokens P r ts all e = All-from_recursion (λ t. P (lexeme t)) ts (of_lexemes P ts (subst (Each P) e all))
+
+-- those of a text that has tokens
+pub tokens_ordered : (source : List ℕ) (tokens : List Lexeme) → tokens_of source ≡ Ok tokens → IsOrderedFrom 0 tokens
+tokens_ordered source tokens e = subst (Ordered 0) e (ordered source)

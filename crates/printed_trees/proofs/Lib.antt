@@ -1,0 +1,15 @@
+pub mod Names
+pub mod Scripts
+pub mod Put
+pub mod Lines
+pub mod Blocks
+pub mod Parted
+pub mod Placed
+pub mod ReadValues
+pub mod ReadWords
+pub mod ReadInstrs
+pub mod ReadBlocks
+pub mod ReadModule
+pub mod ReadParts
+pub mod Facts
+pub mod Whole
