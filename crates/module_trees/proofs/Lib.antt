@@ -1,17 +1,4 @@
-mod Allocas
-mod Blocks
-mod Example
-mod Fitting
-mod Forms
-mod Known
-mod Limits
 mod Lists
-mod Named
 mod Names
-mod Others
 mod Problems
 mod Ready
-mod Sound
-mod Spelling
-mod Uses
-mod Whole
