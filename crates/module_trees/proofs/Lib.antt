@@ -1,4 +1,6 @@
 mod Lists
+mod Literals
 mod Names
 mod Problems
 mod Ready
+mod Table
