@@ -4,3 +4,4 @@ mod Names
 mod Problems
 mod Ready
 mod Table
+mod Uses
