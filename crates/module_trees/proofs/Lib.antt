@@ -5,3 +5,5 @@ mod Problems
 mod Ready
 mod Table
 mod Uses
+mod Forms
+mod Doing
