@@ -7,3 +7,4 @@ mod Table
 mod Uses
 mod Forms
 mod Doing
+mod Endings
