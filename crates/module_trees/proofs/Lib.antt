@@ -8,3 +8,5 @@ mod Uses
 mod Forms
 mod Doing
 mod Endings
+mod Allocas
+mod Others
