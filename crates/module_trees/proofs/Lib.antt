@@ -10,3 +10,4 @@ mod Doing
 mod Endings
 mod Allocas
 mod Others
+mod Blocks
