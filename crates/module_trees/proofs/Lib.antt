@@ -11,3 +11,5 @@ mod Endings
 mod Allocas
 mod Others
 mod Blocks
+mod Params
+mod Counts

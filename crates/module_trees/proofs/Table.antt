@@ -162,9 +162,9 @@ variable_placed s vars (a ∷ bs) t b v x e h =
 pub found : (d : Defined) (n : Name) (m : Meaning) → IsDistinct same_name (keys_of d.meanings) → IsPlaced d.meanings n m → meaning_of d n ≡ Some m
 found d n m h p = lookup_from_place name_equivalence d.meanings p.place n m h p.is
 
--- the names of a function mean its parameters, blocks, variables and registers
+-- the names of a function with blocks mean its parameters, blocks, variables and registers
 pub record KnowsLocals (s : Scope) (f : Function) (d : Defined) : Type 0 where
-  pub parameter : (p : ℕ) (x : Width × Name) → slice_get f.params p ≡ Some x → meaning_of d (spelled x.1) ≡ Some (meaning.Parameter p x.0)
+  pub parameter : (t : ℕ) (b : Block) (p : ℕ) (x : Width × Name) → slice_get f.blocks t ≡ Some b → slice_get f.params p ≡ Some x → meaning_of d (spelled x.1) ≡ Some (meaning.Parameter p x.0)
   pub variable : (t : ℕ) (b : Block) (v : ℕ) (x : Width × Name) → slice_get f.blocks t ≡ Some b → slice_get f.vars v ≡ Some x → meaning_of d (spelled x.1) ≡ Some (meaning.Variable v x.0)
   pub block : (t : ℕ) (b : Block) → slice_get f.blocks t ≡ Some b → meaning_of d (spelled b.name) ≡ Some (meaning.Block t)
   pub register : (t : ℕ) (b : Block) (r : ℕ) (i : Instr) (n : Name) (w : Width) → slice_get f.blocks t ≡ Some b → slice_get b.instrs r ≡ Some i → i.result ≡ Some n → given_by s i.kind ≡ Some w
@@ -176,7 +176,7 @@ knows_locals s f d ready e =
     let params : List (Name × Meaning) = numbered meaning.Parameter 0 f.params in
     let body : List (Name × Meaning) = of_body s f.vars f.blocks in
     record {
-      parameter = λ p x h.
+      parameter = λ t b p x there h.
           let number : 0 + p ≡ p = omega arith in
           found d (spelled x.1) (meaning.Parameter p x.0) differ (subst (λ es. IsPlaced es (spelled x.1) (meaning.Parameter p x.0)) (sym e)
           (before_all params body (spelled x.1) (meaning.Parameter p x.0)

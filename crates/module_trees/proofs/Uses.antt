@@ -184,7 +184,7 @@ module _ (m : Program) (f : Function) (c : Context) (known : Knows m f c) where
         let x : MappedFrom (λ (y : Width × Name). y.0) f.params p w = mapped_from (λ (y : Width × Name). y.0) f.params p w h in
         subst (IsMeantValue c (record { block = k; instr = n }) w (Param p) s) (sym (parameter_tree b w p x.item x.is))
         (usable c (record { block = k; instr = n }) w (Param p) s (spelled x.item.1)
-        (usable_parameter (record { block = k; instr = n }) w p x.item.0 (meaning_of c.locals (spelled x.item.1)) (known.locals.parameter p x.item x.is) x.gives))
+        (usable_parameter (record { block = k; instr = n }) w p x.item.0 (meaning_of c.locals (spelled x.item.1)) (known.locals.parameter k b p x.item there x.is) x.gives))
     value_here w (Reg r) s h =
         let x : CameFrom (λ (i : Instr). given_by (scope m f) i.kind) (slice_get (take n b.instrs) r) w = came_from (λ (i : Instr). given_by (scope m f) i.kind) (slice_get (take n b.instrs) r) w h in
         let i : StandsBefore b.instrs n r x.item = stands_before n b.instrs r x.item x.is in
