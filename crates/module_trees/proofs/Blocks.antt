@@ -38,6 +38,16 @@ take_all xs n e = ap (λ k. take k xs) e ∙ whole xs
     whole [] = refl
     whole (x ∷ xs) = ap (λ ys. x ∷ ys) (whole xs)
 
+-- the meanings of a block are its label's, those of its variables and those of its registers
+joined : (ms start middle last : List (Name × Meaning)) (e : Name × Meaning) (vs rs : List (Name × Meaning)) → start ≡ ms ++ e ∷ [] → middle ≡ start ++ vs → last ≡ middle ++ rs
+    → last ≡ ms ++ (e ∷ (vs ++ rs))
+joined ms start middle last e vs rs f g h =
+    h
+    ∙ (ap (λ xs. xs ++ rs) g
+    ∙ (ap (λ xs. (xs ++ vs) ++ rs) f
+    ∙ (append_assoc (ms ++ e ∷ []) vs rs
+    ∙ append_assoc ms (e ∷ []) (vs ++ rs))))
+
 module _ (m : Program) (f : Function) where
   -- ---- one block
 
@@ -77,17 +87,14 @@ module _ (m : Program) (f : Function) where
         let count_is : (at_term r tree).instrs ≡ length b.instrs = ap (λ (q : Reached). q.instrs) end_is ∙ (two.counted ∙ (ap (λ (k : ℕ). k + length b.instrs) one.none_yet ∙ omega arith)) in
         let there_at_end : slice_get f.blocks (at_term r tree).block ≡ Some b = subst (λ k. slice_get f.blocks k ≡ Some b) (sym block_is) there in
         let registers : List (Name × Meaning) = registers_from (scope m f) r.block 0 b.instrs in
+        let variables_are : middle.before.meanings ≡ begin.before.meanings ++ variables_meant 0 vars = one.meanings ∙ ap (λ (ms : List (Name × Meaning)). begin.before.meanings ++ ms) start in
+        let registers_here : registers_from (scope m f) middle.block middle.instrs b.instrs ≡ registers = λ i. registers_from (scope m f) (one.block i) (one.none_yet i) b.instrs in
+        let registers_are : (at_term r tree).before.meanings ≡ middle.before.meanings ++ registers =
+        ap (λ (q : Reached). q.before.meanings) end_is ∙ (two.meanings ∙ ap (λ (ms : List (Name × Meaning)). middle.before.meanings ++ ms) registers_here) in
         record {
           block = block_is;
-          meanings =
-              ap (λ (q : Reached). q.before.meanings) end_is
-              ∙ (two.meanings
-              ∙ ((λ i. middle.before.meanings ++ registers_from (scope m f) (one.block i) (one.none_yet i) b.instrs)
-              ∙ (ap (λ (ms : List (Name × Meaning)). ms ++ registers) one.meanings
-              ∙ (ap (λ (ms : List (Name × Meaning)). (begin.before.meanings ++ ms) ++ registers) start
-              ∙ (ap (λ (ms : List (Name × Meaning)). (ms ++ variables_meant 0 vars) ++ registers) first.meanings
-              ∙ (append_assoc (r.before.meanings ++ (spelled b.name, BlockMeaning r.block) ∷ []) (variables_meant 0 vars) registers
-              ∙ append_assoc r.before.meanings ((spelled b.name, BlockMeaning r.block) ∷ []) (variables_meant 0 vars ++ registers)))))));
+          meanings = joined r.before.meanings begin.before.meanings middle.before.meanings (at_term r tree).before.meanings (spelled b.name, BlockMeaning r.block) (variables_meant 0 vars) registers
+              first.meanings variables_are registers_are;
           ready = subst (λ (q : Reached). IsReady q.before ns) (sym end_is) two.ready;
           vars_are = one.vars_are ∙ (ap (λ (tail : List (Width × Name)). plain_names vars ++ tail) two.vars_are ∙ append-nil (plain_names vars));
           problem = λ c known.

@@ -13,3 +13,5 @@ mod Others
 mod Blocks
 mod Params
 mod Counts
+mod Declared
+mod Functions
