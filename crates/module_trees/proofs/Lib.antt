@@ -15,3 +15,5 @@ mod Params
 mod Counts
 mod Declared
 mod Functions
+mod Symbols
+mod Whole

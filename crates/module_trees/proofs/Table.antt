@@ -19,10 +19,14 @@ use Rattle.ir_types.specs.declared.tree.Ty.TheVariants.{Int}
 use Rattle.module_trees.proofs.Names.{name_equivalence}
 use Rattle.module_trees.proofs.Ready.{IsReady}
 
--- what the names of a list mean, where each item means so with its number, counted from this number
+-- what the names of a list mean, where each item has such a name and means so with its number, counted from this number
+abbrev pub listed : {X : Type 0} → (X → Name) → (ℕ → X → Meaning) → ℕ → List X → List (Name × Meaning)
+listed name means i [] = []
+listed name means i (x ∷ xs) = (name x, means i x) ∷ listed name means (i + 1) xs
+
+-- the same of names with widths
 abbrev pub numbered : (ℕ → Width → Meaning) → ℕ → List (Width × Name) → List (Name × Meaning)
-numbered means i [] = []
-numbered means i (x ∷ xs) = (spelled x.1, means i x.0) ∷ numbered means (i + 1) xs
+numbered means i xs = listed (λ x. spelled x.1) (λ k x. means k x.0) i xs
 
 -- the register of an instruction, if it has a name
 abbrev pub with_register : Scope → ℕ → ℕ → Kind → Option Name → List (Name × Meaning) → List (Name × Meaning)
@@ -63,7 +67,7 @@ pub record IsPlaced (es : List (Name × Meaning)) (n : Name) (m : Meaning) : Typ
 behind : (e : Name × Meaning) (es : List (Name × Meaning)) (n : Name) (m : Meaning) → IsPlaced es n m → IsPlaced (e ∷ es) n m
 behind e es n m h = record { place = suc h.place; is = h.is }
 
-behind_all : (front es : List (Name × Meaning)) (n : Name) (m : Meaning) → IsPlaced es n m → IsPlaced (front ++ es) n m
+pub behind_all : (front es : List (Name × Meaning)) (n : Name) (m : Meaning) → IsPlaced es n m → IsPlaced (front ++ es) n m
 behind_all [] es n m h = h
 behind_all (e ∷ front) es n m h = behind e (front ++ es) n m (behind_all front es n m h)
 
@@ -72,24 +76,30 @@ in_front [] es n m i h = cc
 in_front (e ∷ front) es n m zero h = record { place = 0; is = h }
 in_front (e ∷ front) es n m (suc i) h = behind e (front ++ es) n m (in_front front es n m i h)
 
-before_all : (front es : List (Name × Meaning)) (n : Name) (m : Meaning) → IsPlaced front n m → IsPlaced (front ++ es) n m
+pub before_all : (front es : List (Name × Meaning)) (n : Name) (m : Meaning) → IsPlaced front n m → IsPlaced (front ++ es) n m
 before_all front es n m h = in_front front es n m h.place h.is
 
 at_head : (es : List (Name × Meaning)) (n : Name) (m : Meaning) → IsPlaced ((n, m) ∷ es) n m
 at_head es n m = record { place = 0; is = λ i. Some (n, m) }
 
-numbered_placed : (means : ℕ → Width → Meaning) (i : ℕ) (xs : List (Width × Name)) (j : ℕ) (x : Width × Name) → slice_get xs j ≡ Some x
-    → IsPlaced (numbered means i xs) (spelled x.1) (means (i + j) x.0)
-numbered_placed means i [] j x h = cc
-numbered_placed means i (y ∷ ys) zero x h =
+pub listed_placed : {X : Type 0} (name : X → Name) (means : ℕ → X → Meaning) (i : ℕ) (xs : List X) (j : ℕ) (x : X) → slice_get xs j ≡ Some x
+    → IsPlaced (listed name means i xs) (name x) (means (i + j) x)
+listed_placed name means i [] j x h = cc
+listed_placed {X} name means i (y ∷ ys) zero x h =
     let same : y ≡ x = cc in
     let number : i ≡ i + 0 = omega arith in
-    subst (λ (z : Width × Name). IsPlaced (numbered means i (y ∷ ys)) (spelled z.1) (means (i + 0) z.0)) same
-    (subst (λ k. IsPlaced (numbered means i (y ∷ ys)) (spelled y.1) (means k y.0)) number (at_head (numbered means (i + 1) ys) (spelled y.1) (means i y.0)))
-numbered_placed means i (y ∷ ys) (suc j) x h =
+    subst (λ (z : X). IsPlaced (listed name means i (y ∷ ys)) (name z) (means (i + 0) z)) same
+    (subst (λ k. IsPlaced (listed name means i (y ∷ ys)) (name y) (means k y)) number (at_head (listed name means (i + 1) ys) (name y) (means i y)))
+listed_placed name means i (y ∷ ys) (suc j) x h =
     let number : (i + 1) + j ≡ i + suc j = omega arith in
-    subst (λ k. IsPlaced (numbered means i (y ∷ ys)) (spelled x.1) (means k x.0)) number
-    (behind (spelled y.1, means i y.0) (numbered means (i + 1) ys) (spelled x.1) (means ((i + 1) + j) x.0) (numbered_placed means (i + 1) ys j x h))
+    subst (λ k. IsPlaced (listed name means i (y ∷ ys)) (name x) (means k x)) number
+    (behind (name y, means i y) (listed name means (i + 1) ys) (name x) (means ((i + 1) + j) x) (listed_placed name means (i + 1) ys j x h))
+
+-- counted from 0, an item has the number of its place
+pub item_placed : {X : Type 0} (name : X → Name) (means : ℕ → X → Meaning) (xs : List X) (j : ℕ) (x : X) → slice_get xs j ≡ Some x → IsPlaced (listed name means 0 xs) (name x) (means j x)
+item_placed name means xs j x h =
+    let number : 0 + j ≡ j = omega arith in
+    subst (λ k. IsPlaced (listed name means 0 xs) (name x) (means k x)) number (listed_placed name means 0 xs j x h)
 
 behind_register : (s : Scope) (k i : ℕ) (kind : Kind) (o : Option Name) (es : List (Name × Meaning)) (n : Name) (m : Meaning) → IsPlaced es n m → IsPlaced (with_register s k i kind o es) n m
 behind_register s k i kind None es n m h = h
@@ -151,11 +161,10 @@ variable_placed : (s : Scope) (vars : List (Width × Name)) (bs : List Block) (t
     → IsPlaced (of_body s vars bs) (spelled x.1) (meaning.Variable v x.0)
 variable_placed s vars [] t b v x e h = cc
 variable_placed s vars (a ∷ bs) t b v x e h =
-    let number : 0 + v ≡ v = omega arith in
     behind (spelled a.name, meaning.Block 0) _ (spelled x.1) (meaning.Variable v x.0)
     (before_all (variables_from 0 vars ++ registers_from s 0 0 a.instrs) (of_blocks s 1 bs) (spelled x.1) (meaning.Variable v x.0)
     (before_all (variables_from 0 vars) (registers_from s 0 0 a.instrs) (spelled x.1) (meaning.Variable v x.0)
-    (subst (λ j. IsPlaced (variables_from 0 vars) (spelled x.1) (meaning.Variable j x.0)) number (numbered_placed meaning.Variable 0 vars v x h))))
+    (item_placed (λ (y : Width × Name). spelled y.1) (λ k y. meaning.Variable k y.0) vars v x h)))
 
 -- ---- look-ups
 
@@ -177,10 +186,9 @@ knows_locals s f d ready e =
     let body : List (Name × Meaning) = of_body s f.vars f.blocks in
     record {
       parameter = λ t b p x there h.
-          let number : 0 + p ≡ p = omega arith in
           found d (spelled x.1) (meaning.Parameter p x.0) differ (subst (λ es. IsPlaced es (spelled x.1) (meaning.Parameter p x.0)) (sym e)
           (before_all params body (spelled x.1) (meaning.Parameter p x.0)
-          (subst (λ j. IsPlaced params (spelled x.1) (meaning.Parameter j x.0)) number (numbered_placed meaning.Parameter 0 f.params p x h))));
+          (item_placed (λ (y : Width × Name). spelled y.1) (λ k y. meaning.Parameter k y.0) f.params p x h)));
       variable = λ t b v x there h.
           found d (spelled x.1) (meaning.Variable v x.0) differ (subst (λ es. IsPlaced es (spelled x.1) (meaning.Variable v x.0)) (sym e)
           (behind_all params body (spelled x.1) (meaning.Variable v x.0) (variable_placed s f.vars f.blocks t b v x there h)));
