@@ -48,6 +48,9 @@ joined ms start middle last e vs rs f g h =
     ∙ (append_assoc (ms ++ e ∷ []) vs rs
     ∙ append_assoc ms (e ∷ []) (vs ++ rs))))
 
+moved : (first last : Reached) (ms rs ss : List (Name × Meaning)) → first ≡ last → last.before.meanings ≡ ms ++ rs → rs ≡ ss → first.before.meanings ≡ ms ++ ss
+moved first last ms rs ss e f g = ap (λ q. q.before.meanings) e ∙ (f ∙ ap (λ xs. ms ++ xs) g)
+
 module _ (m : Program) (f : Function) where
   -- ---- one block
 
@@ -90,7 +93,7 @@ module _ (m : Program) (f : Function) where
         let variables_are : middle.before.meanings ≡ begin.before.meanings ++ variables_meant 0 vars = one.meanings ∙ ap (λ (ms : List (Name × Meaning)). begin.before.meanings ++ ms) start in
         let registers_here : registers_from (scope m f) middle.block middle.instrs b.instrs ≡ registers = λ i. registers_from (scope m f) (one.block i) (one.none_yet i) b.instrs in
         let registers_are : (at_term r tree).before.meanings ≡ middle.before.meanings ++ registers =
-        ap (λ (q : Reached). q.before.meanings) end_is ∙ (two.meanings ∙ ap (λ (ms : List (Name × Meaning)). middle.before.meanings ++ ms) registers_here) in
+        moved (at_term r tree) (after_instrs middle others) middle.before.meanings (registers_from (scope m f) middle.block middle.instrs b.instrs) registers end_is two.meanings registers_here in
         record {
           block = block_is;
           meanings = joined r.before.meanings begin.before.meanings middle.before.meanings (at_term r tree).before.meanings (spelled b.name, BlockMeaning r.block) (variables_meant 0 vars) registers

@@ -7,6 +7,7 @@ mod Table
 mod Uses
 mod Forms
 mod Doing
+mod Example
 mod Endings
 mod Allocas
 mod Others
