@@ -6,7 +6,7 @@ use Rattle.mc_num.specs.declared.op.Width.{Width}
 use Rattle.ir_types.specs.Same.{plain_names}
 use Rattle.ir_types.specs.ModuleOf.{var_of, instr_of, vars_from, instrs_from}
 use Rattle.ir_types.specs.Names.{spelled}
-use Rattle.ir_types.specs.Problems.{broken, ◌>>◌}
+use Rattle.ir_types.specs.Problems.{◌>>◌}
 use Rattle.ir_types.specs.Rules.{Reached, instr_problem, instrs_problem, after_instr, after_instrs}
 use Rattle.ir_types.specs.Uses.{Context}
 use Rattle.ir_types.specs.TreeOf.{IsTreeAlloca, IsTreeResult}

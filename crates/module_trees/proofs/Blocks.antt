@@ -1,17 +1,16 @@
 -- The blocks of a function's tree, in order.
-use Rattle.std.proofs.Common.{◌≡◌, ◌<◌, ◌+◌, ◌++◌, ℕ, suc, List, [], ◌∷◌, Option, None, Some, length, map, take, slice_get, All, refl, sym, ap, subst, ◌∙◌, append_assoc, append-nil, arith}
+use Rattle.std.proofs.Common.{◌≡◌, ◌+◌, ◌++◌, ℕ, suc, List, [], ◌∷◌, Option, None, Some, length, map, take, slice_get, All, refl, sym, ap, subst, ◌∙◌, append_assoc, append-nil, arith}
 use Rattle.std.specs.List.{AllZip, AllByRecursion}
 use Rattle.mc_num.specs.declared.op.Width.{Width}
 use Rattle.ir_types.specs.Program.{Program}
 use Rattle.ir_types.specs.Same.{plain_block, plain_names}
-use Rattle.ir_types.specs.ModuleOf.{block_of, term_of, vars_from, instrs_from, blocks_from, variables_from}
+use Rattle.ir_types.specs.ModuleOf.{block_of, vars_from, blocks_from, variables_from}
 use Rattle.ir_types.specs.Names.{spelled}
-use Rattle.ir_types.specs.Rules.{Reached, here, after_instrs, at_block, at_term, after_block, after_blocks, term_problem, block_problem, blocks_problem}
+use Rattle.ir_types.specs.Rules.{Reached, after_instrs, at_block, at_term, after_block, after_blocks, block_problem, blocks_problem}
 use Rattle.ir_types.specs.TreeOf.{IsTreeBlock, IsTreeTerm, IsTreeResult, IsTreeInstr, IsTreeAlloca}
 use Rattle.ir_types.specs.Uses.{Context}
 use Rattle.ir_types.specs.WellFormed.{scope, IsBlockIn, result_names, block_names}
 use Rattle.ir_types.specs.declared.name.Name.{Name}
-use Rattle.ir_types.specs.declared.rules.Here.{Here}
 use Rattle.ir_types.specs.declared.rules.Meaning.{Meaning}
 use Rattle.ir_types.specs.declared.rules.Meaning.TheVariants.{Block as BlockMeaning, Variable}
 use Rattle.ir_types.specs.declared.span.At.{At}
@@ -23,7 +22,7 @@ use Rattle.ir_types.specs.declared.tree.RawBlock.{RawBlock}
 use Rattle.ir_types.specs.declared.tree.RawInstr.{RawInstr}
 use Rattle.ir_types.specs.declared.tree.RawTerm.{RawTerm}
 use Rattle.module_trees.proofs.Allocas.{ArePassed as AllocasPassed, allocas_passed}
-use Rattle.module_trees.proofs.Endings.{IsMeantTerm, term_meant}
+use Rattle.module_trees.proofs.Endings.{term_meant}
 use Rattle.module_trees.proofs.Lists.{at_place}
 use Rattle.module_trees.proofs.Others.{ArePassed as OthersPassed, others_passed}
 use Rattle.module_trees.proofs.Problems.{then_none}
@@ -82,8 +81,8 @@ module _ (m : Program) (f : Function) where
         let there_then : slice_get f.blocks middle.block ≡ Some b = subst (λ k. slice_get f.blocks k ≡ Some b) (sym one.block) there in
         let instr_here : (j : ℕ) (i : Instr) → slice_get b.instrs j ≡ Some i → slice_get b.instrs (middle.instrs + j) ≡ Some i =
         λ j i e.
-            let number : j ≡ middle.instrs + j = omega (arith, one.none_yet) in
-            subst (λ k. slice_get b.instrs k ≡ Some i) number e in
+        let number : j ≡ middle.instrs + j = omega (arith, one.none_yet) in
+        subst (λ k. slice_get b.instrs k ≡ Some i) number e in
         let two : OthersPassed m f b rules_of middle b.instrs others ns = others_passed m f b rules_of middle b.instrs others ns there_then instr_here are_others one.ready in
         let end_is : at_term r tree ≡ after_instrs middle others = one.reached in
         let block_is : (at_term r tree).block ≡ r.block = ap (λ (q : Reached). q.block) end_is ∙ (two.block ∙ one.block) in
@@ -159,8 +158,8 @@ module _ (m : Program) (f : Function) where
       let next_is : next.block ≡ r.block + 1 = ap (λ (k : ℕ). k + 1) step.block in
       let later : (j : ℕ) (y : Block) → slice_get bs j ≡ Some y → slice_get f.blocks (next.block + j) ≡ Some y =
       λ j y e.
-          let number : r.block + suc j ≡ next.block + j = omega (arith, next_is) in
-          subst (λ k. slice_get f.blocks k ≡ Some y) number (there (suc j) y e) in
+      let number : r.block + suc j ≡ next.block + j = omega (arith, next_is) in
+      subst (λ k. slice_get f.blocks k ≡ Some y) number (there (suc j) y e) in
       let more : ArePassed next bs xs = blocks_passed next bs xs rules_of later trees.1 step.ready in
       record {
         meanings =

@@ -6,7 +6,7 @@ use Rattle.std.proofs.lemmas.Bool.Decides.{nat_tests}
 use Rattle.mc_num.specs.declared.op.Width.{Width}
 use Rattle.ir_types.specs.Program.{Program}
 use Rattle.ir_types.specs.Limits.{is_alloca, slot_count, raw_slot_count, is_above, is_above_limits, IsWithinLimits}
-use Rattle.ir_types.specs.TreeOf.{IsTreeAlloca, IsTreeInstr, IsTreeTerm, IsTreeBlock, IsTreeCase, AreTreeBlocks}
+use Rattle.ir_types.specs.TreeOf.{IsTreeAlloca, IsTreeInstr, IsTreeTerm, IsTreeBlock, IsTreeCase}
 use Rattle.ir_types.specs.declared.name.Name.{Name}
 use Rattle.ir_types.specs.declared.syntax.Block.{Block}
 use Rattle.ir_types.specs.declared.syntax.Function.{Function}
@@ -126,11 +126,21 @@ module _ (m : Program) (f : Function) where
   block_more vars b x bs xs t more =
       let one = of_instrs vars b x t in
       record {
-        instrs = omega (arith, one.are_others, more.instrs,
-            sum_by-cons (λ (y : RawBlock). count_by (λ (z : RawInstr). not (is_alloca z.kind)) y.instrs) x xs, sum_by-cons (λ (y : Block). length y.instrs) b bs);
+        instrs = omega (
+          arith,
+          one.are_others,
+          more.instrs,
+          sum_by-cons (λ (y : RawBlock). count_by (λ (z : RawInstr). not (is_alloca z.kind)) y.instrs) x xs,
+          sum_by-cons (λ (y : Block). length y.instrs) b bs,
+        );
         blocks = omega (arith, more.blocks);
-        slots = omega (arith, of_term b b.term x.term t.term, more.slots,
-            sum_by-cons (λ (y : RawBlock). raw_slot_count y.term) x xs, sum_by-cons (λ (y : Block). slot_count y.term) b bs);
+        slots = omega (
+          arith,
+          of_term b b.term x.term t.term,
+          more.slots,
+          sum_by-cons (λ (y : RawBlock). raw_slot_count y.term) x xs,
+          sum_by-cons (λ (y : Block). slot_count y.term) b bs,
+        );
         variables = omega (arith, one.are_allocas, more.variables, sum_by-cons (λ (y : RawBlock). count_by (λ (z : RawInstr). is_alloca z.kind) y.instrs) x xs);
       }
 

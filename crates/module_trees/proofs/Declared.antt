@@ -1,13 +1,12 @@
 -- The trees of the two functions that may be declared.
-use Rattle.std.proofs.Common.{◌≡◌, ◌⊎◌, ℕ, List, [], ◌∷◌, Option, None, Some, ⊎_elim, refl, sym, ap, subst, ◌∙◌, codes}
+use Rattle.std.proofs.Common.{◌≡◌, List, [], ◌∷◌, None, refl, sym, codes}
 use Rattle.std.specs.List.{AllZip}
 use Rattle.mc_num.specs.declared.op.Width.{Width}
 use Rattle.mc_num.specs.declared.op.Width.TheVariants.{I32}
 use Rattle.ir_types.specs.Program.{Program}
-use Rattle.ir_types.specs.TreeOf.{type_tree, IsTreeFunction, IsTreeBlock, IsTreeType, AreTreeBlocks}
+use Rattle.ir_types.specs.TreeOf.{IsTreeFunction, IsTreeType, AreTreeBlocks}
 use Rattle.ir_types.specs.WellFormed.{getchar, putchar}
 use Rattle.ir_types.specs.declared.name.Name.{Name}
-use Rattle.ir_types.specs.declared.span.At.{At}
 use Rattle.ir_types.specs.declared.span.Span.{Span}
 use Rattle.ir_types.specs.declared.syntax.Function.{Function}
 use Rattle.ir_types.specs.declared.tree.RawBlock.{RawBlock}

@@ -1,10 +1,10 @@
 -- What an instruction of a tree does has no problem, and means what the instruction does.
-use Rattle.std.proofs.Common.{◌≡◌, ◌<◌, ◌++◌, ◌==◌, ◌&&◌, ◌||◌, not, nat_lt, ℕ, Bool, true, false, List, [], ◌∷◌, Option, None, Some, IsSomeAnd, length, map, take, slice_get, refl, sym, ap, subst, ◌∙◌, arith}
+use Rattle.std.proofs.Common.{◌≡◌, ◌==◌, ◌&&◌, ◌||◌, not, ℕ, Bool, true, false, List, [], ◌∷◌, Option, None, Some, IsSomeAnd, length, take, slice_get, refl, sym, ap, subst, ◌∙◌, arith}
 use Rattle.std.specs.Option.{option_and_then, option_map_or, is_some, is_none}
 use Rattle.std.specs.List.{AllZip}
 use Rattle.std.proofs.lemmas.Bool.Decides.{nat_tests}
 use Rattle.std.proofs.lemmas.Option.{same_Some}
-use Rattle.mc_num.specs.Op.{bits, IsWellFormedOp}
+use Rattle.mc_num.specs.Op.{IsWellFormedOp}
 use Rattle.mc_num.specs.declared.op.Bin.{Bin as BinOp}
 use Rattle.mc_num.specs.declared.op.Pred.{Pred}
 use Rattle.mc_num.specs.declared.op.Cast.{Cast as CastOp}
@@ -13,17 +13,15 @@ use Rattle.mc_num.specs.declared.op.Op.TheVariants as op
 use Rattle.mc_num.specs.declared.op.Width.{Width}
 use Rattle.mc_num.specs.declared.op.Width.TheVariants.{I1}
 use Rattle.ir_types.specs.Program.{Program}
-use Rattle.ir_types.specs.Problems.{broken, ◌>>◌}
 use Rattle.ir_types.specs.Definitions.{meaning_of}
 use Rattle.ir_types.specs.Limits.{is_alloca}
 use Rattle.ir_types.specs.ModuleOf.{var_of, kind_of, gives, function_meaning}
 use Rattle.ir_types.specs.Rules.{Reached, here, result_type, register, result_meaning, kind_problem}
-use Rattle.ir_types.specs.Uses.{Context, same_width, same_type, casts, is_void, is_other_callee, function_named, callee_of, params_of, callee_problem, arguments_problem}
+use Rattle.ir_types.specs.Uses.{Context, same_width, same_type, casts, is_void, is_other_callee, function_named, callee_of, params_of, arguments_problem}
 use Rattle.ir_types.specs.TreeOf.{type_tree, value_tree, address_tree, IsTreeKind, IsTreeCall, IsTreeFunction, IsTreeParam, IsTreeType, AreTreeParams}
-use Rattle.ir_types.specs.WellFormed.{Scope, Signature, scope, signature, widths, HasWidth, Fits, IsOperation, given_by, variable_width, IsBlockIn}
+use Rattle.ir_types.specs.WellFormed.{Scope, Signature, scope, signature, widths, HasWidth, Fits, given_by, variable_width, IsBlockIn}
 use Rattle.ir_types.specs.declared.name.Name.{Name}
 use Rattle.ir_types.specs.declared.name.Name.TheVariants.{Text}
-use Rattle.ir_types.specs.declared.rules.Meaning.{Meaning}
 use Rattle.ir_types.specs.declared.rules.Meaning.TheVariants as meaning
 use Rattle.ir_types.specs.declared.rules.Rule.TheVariants as rule
 use Rattle.ir_types.specs.declared.span.At.{At}
@@ -45,9 +43,9 @@ use Rattle.ir_types.specs.declared.tree.RawValue.{RawValue}
 use Rattle.ir_types.specs.declared.tree.Ty.{Ty}
 use Rattle.ir_types.specs.declared.tree.Ty.TheVariants.{Int, Void, Ptr}
 use Rattle.module_trees.proofs.Forms.{HoldsOfForms, of_each}
-use Rattle.module_trees.proofs.Lists.{Beside, mapped, same_length}
+use Rattle.module_trees.proofs.Lists.{Beside, mapped}
 use Rattle.module_trees.proofs.Problems.{then_none, unbroken}
-use Rattle.module_trees.proofs.Uses.{Knows, IsMeantValue, IsMeantAddress, AreMeantArguments, value_meant, address_meant, arguments_meant, same_as_itself, equal_itself}
+use Rattle.module_trees.proofs.Uses.{Knows, IsMeantValue, IsMeantAddress, value_meant, address_meant, arguments_meant, same_as_itself, equal_itself}
 
 -- ---- shapes
 
@@ -241,8 +239,8 @@ module _ (m : Program) (f : Function) (c : Context) (known : Knows m f c) (r : R
             then_none _ _
             (then_none _ _ (unbroken rule.Undefined name.span _ (ap is_none means))
             (unbroken rule.BadType name.span _ (
-                both_false _ _ (ap (λ z. is_void z && named) t.type_is ∙ void_unnamed g.ret named returns)
-                (ap (is_other_callee type (length xs)) callee_is ∙ other))))
+            both_false _ _ (ap (λ z. is_void z && named) t.type_is ∙ void_unnamed g.ret named returns)
+            (ap (is_other_callee type (length xs)) callee_is ∙ other))))
             (ap (λ ps. arguments_problem c (here r) ps xs) params_are ∙ arguments.problem);
         means = λ i. Some (Call (function_meaning (means i)) (arguments.means i));
       }

@@ -1,5 +1,5 @@
 -- What ends a block of a tree has no problem, and means what ends the block.
-use Rattle.std.proofs.Common.{◌≡◌, ◌≢◌, ◌<◌, ◌^◌, ◌+◌, ◌++◌, ◌==◌, ◌||◌, not, ℕ, zero, suc, Bool, true, false, List, [], ◌∷◌, Option, None, Some, IsSomeAnd, length, map, take, slice_get, slice_index_or, All, refl, sym, ap, subst, ◌∙◌, append_assoc, nat_eq, arith}
+use Rattle.std.proofs.Common.{◌≡◌, ◌≢◌, ◌<◌, ◌^◌, ◌++◌, ◌==◌, ◌||◌, not, ℕ, suc, false, List, [], ◌∷◌, Option, None, Some, IsSomeAnd, length, map, take, slice_get, slice_index_or, refl, sym, ap, subst, ◌∙◌, append_assoc, nat_eq, arith}
 use Rattle.std.specs.Prelude.{AllPairs}
 use Rattle.std.specs.Option.{option_to_list, option_map_or}
 use Rattle.std.specs.List.{AllZip, AllByRecursion, IsDistinct, list_any}
@@ -10,10 +10,10 @@ use Rattle.mc_num.specs.declared.op.Width.{Width}
 use Rattle.mc_num.specs.declared.op.Width.TheVariants.{I1}
 use Rattle.ir_types.specs.Program.{Program}
 use Rattle.ir_types.specs.Literals.{literal_value}
-use Rattle.ir_types.specs.ModuleOf.{case_of, term_of, constant_of, target_of}
+use Rattle.ir_types.specs.ModuleOf.{case_of, term_of}
 use Rattle.ir_types.specs.Rules.{term_problem}
-use Rattle.ir_types.specs.Uses.{Context, same_width, same_type, is_seen, item_problem, value_problem, label_problem, case_problem, cases_problem}
-use Rattle.ir_types.specs.TreeOf.{type_tree, literal_of, value_tree, label_tree, IsTreeCase, IsTreeTerm}
+use Rattle.ir_types.specs.Uses.{Context, same_width, same_type, is_seen, item_problem, case_problem, cases_problem}
+use Rattle.ir_types.specs.TreeOf.{type_tree, value_tree, label_tree, IsTreeCase, IsTreeTerm}
 use Rattle.ir_types.specs.WellFormed.{scope, HasWidth, Ends, AreCases, IsBlockIn, targets}
 use Rattle.ir_types.specs.declared.name.Name.{Name}
 use Rattle.ir_types.specs.declared.rules.Here.{Here}

@@ -6,8 +6,7 @@ use Rattle.std.specs.List.{IsDistinct}
 use Rattle.std.proofs.lemmas.Map.Made.{AllPairs-from_IsDistinct}
 use Rattle.std.proofs.lemmas.List.Elements.{All-from_recursion}
 use Rattle.mc_num.specs.Op.{bits}
-use Rattle.mc_num.specs.declared.op.Width.{Width}
-use Rattle.mc_num.specs.declared.op.Width.TheVariants.{I1, I8, I32}
+use Rattle.mc_num.specs.declared.op.Width.TheVariants.{I8, I32}
 use Rattle.mc_num.specs.declared.op.Cast.TheVariants.{Zext}
 use Rattle.mc_num.specs.declared.op.Pred.TheVariants.{Eq}
 use Rattle.mc_num.specs.declared.op.Op.TheVariants as op
@@ -38,12 +37,10 @@ use Rattle.ir_types.specs.declared.tree.Address.TheVariants as addresses
 use Rattle.ir_types.specs.declared.tree.Raw.{Raw}
 use Rattle.ir_types.specs.declared.tree.RawBlock.{RawBlock}
 use Rattle.ir_types.specs.declared.tree.RawFunction.{RawFunction}
-use Rattle.ir_types.specs.declared.tree.RawGlobal.{RawGlobal}
 use Rattle.ir_types.specs.declared.tree.RawKind.TheVariants as forms
 use Rattle.ir_types.specs.declared.tree.RawTerm.TheVariants as terms
 use Rattle.ir_types.specs.declared.tree.RawValue.TheVariants as values
 use Rattle.ir_types.specs.declared.tree.Ty.TheVariants.{Int}
-use Rattle.module_trees.specs.Meant.{MeansModule}
 use Rattle.module_trees.proofs.Names.{decided}
 use Rattle.module_trees.proofs.Whole.{module_meant}
 

@@ -1,19 +1,18 @@
 -- The tree of a function has no problem, and means the function.
-use Rattle.std.proofs.Common.{◌≡◌, ◌≢◌, ◌+◌, ◌++◌, ◌&&◌, ◌⊎◌, not, ℕ, zero, suc, Bool, true, false, List, [], ◌∷◌, Option, None, Some, length, map, slice_get, All, if◌then◌else◌, inl, inr, refl, sym, ap, subst, ◌∙◌, append_assoc, append-nil, arith}
+use Rattle.std.proofs.Common.{◌≡◌, ◌≢◌, ◌+◌, ◌++◌, ◌&&◌, ◌⊎◌, not, ℕ, suc, false, List, [], ◌∷◌, None, Some, map, slice_get, All, if◌then◌else◌, inl, inr, refl, sym, ap, subst, ◌∙◌, append_assoc, append-nil, arith}
 use Rattle.std.specs.Prelude.{AllPairs}
 use Rattle.std.specs.List.{AllZip, AllByRecursion}
 use Rattle.std.proofs.lemmas.List.Elements.{recursion_from_All}
 use Rattle.std.proofs.lemmas.Map.Made.{IsDistinct-from_AllPairs}
 use Rattle.mc_num.specs.declared.op.Width.{Width}
-use Rattle.mc_num.specs.declared.op.Width.TheVariants.{I32}
 use Rattle.ir_types.specs.Program.{Program}
 use Rattle.ir_types.specs.Definitions.{Defined, nothing}
 use Rattle.ir_types.specs.Limits.{IsWithinLimits, is_above_limits}
-use Rattle.ir_types.specs.ModuleOf.{blocks_from, variables_from, params_from, numbered_from, width_of, function_of}
+use Rattle.ir_types.specs.ModuleOf.{blocks_from, variables_from, params_from, numbered_from}
 use Rattle.ir_types.specs.Names.{spelled, IsSpellable}
-use Rattle.ir_types.specs.Rules.{Reached, after_params, after_block, after_blocks, at_body, at_term, locals_of, params_problem, blocks_problem, body_problem, is_nil, is_known_external}
+use Rattle.ir_types.specs.Rules.{Reached, after_block, after_blocks, at_body, locals_of, params_problem, blocks_problem, body_problem, is_nil, is_known_external}
 use Rattle.ir_types.specs.Same.{plain_names, plain_block}
-use Rattle.ir_types.specs.TreeOf.{type_tree, IsTreeFunction, IsTreeBlock, IsTreeParam, AreTreeBlocks, AreTreeParams}
+use Rattle.ir_types.specs.TreeOf.{IsTreeFunction, IsTreeBlock, IsTreeParam, AreTreeBlocks, AreTreeParams}
 use Rattle.ir_types.specs.Uses.{Context}
 use Rattle.ir_types.specs.WellFormed.{scope, names, body_names, block_names, result_names, CountFrom, IsFunctionIn, IsBlockIn, getchar, putchar}
 use Rattle.ir_types.specs.declared.name.Name.{Name}
@@ -24,7 +23,6 @@ use Rattle.ir_types.specs.declared.syntax.Block.{Block}
 use Rattle.ir_types.specs.declared.syntax.Function.{Function}
 use Rattle.ir_types.specs.declared.tree.RawBlock.{RawBlock}
 use Rattle.ir_types.specs.declared.tree.RawFunction.{RawFunction}
-use Rattle.ir_types.specs.declared.tree.RawParam.{RawParam}
 use Rattle.module_trees.proofs.Blocks.{IsPassed, block_passed, ArePassed as BlocksPassed, blocks_passed}
 use Rattle.module_trees.proofs.Counts.{within}
 use Rattle.module_trees.proofs.Declared.{getchar_tree, putchar_tree, of_getchar, of_putchar}
@@ -128,8 +126,8 @@ module _ (m : Program) (f : Function) (rules_of : IsFunctionIn m f) (b : Block) 
         let next_is : next.block ≡ 1 = ap (λ (k : ℕ). k + 1) one.block in
         let later : (j : ℕ) (c : Block) → slice_get bs j ≡ Some c → slice_get f.blocks (next.block + j) ≡ Some c =
         λ j c e.
-            let number : suc j ≡ next.block + j = omega (arith, next_is) in
-            subst (λ k. slice_get f.blocks k ≡ Some c) number (ap (λ cs. slice_get cs (suc j)) are ∙ e) in
+        let number : suc j ≡ next.block + j = omega (arith, next_is) in
+        subst (λ k. slice_get f.blocks k ≡ Some c) number (ap (λ cs. slice_get cs (suc j)) are ∙ e) in
         let more : BlocksPassed m f next bs ys = blocks_passed m f next bs ys rules_of.blocks later rest one.ready in
         let behind : (after_blocks next ys).before.meanings ≡ next.before.meanings ++ of_blocks (scope m f) 1 bs =
         more.meanings ∙ ap (λ (k : ℕ). next.before.meanings ++ of_blocks (scope m f) k bs) next_is in

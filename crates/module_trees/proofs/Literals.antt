@@ -1,12 +1,12 @@
 -- The literal of a constant is in its range, and counts the constant.
-use Rattle.std.proofs.Common.{◌≡◌, ◌<◌, ◌+◌, ◌-◌, ◌^◌, ◌==◌, not, nat_lt, ℕ, zero, suc, pos, negsuc, Bool, true, false, Option, None, Some, if◌then◌else◌, refl, ap, arith}
+use Rattle.std.proofs.Common.{◌≡◌, ◌<◌, ◌+◌, ◌-◌, ◌^◌, ◌==◌, not, nat_lt, ℕ, zero, suc, pos, negsuc, Bool, true, false, None, Some, if◌then◌else◌, refl, ap, arith}
 use Rattle.std.proofs.lemmas.Bool.Decides.{nat_tests}
 use Rattle.mc_num.specs.Op.{bits}
 use Rattle.mc_num.specs.declared.op.Width.{Width}
 use Rattle.mc_num.specs.declared.op.Width.TheVariants.{I1, I8, I16, I32, I64}
 use Rattle.ir_types.specs.Literals.{is_in_range, residue, literal_value}
-use Rattle.ir_types.specs.ModuleOf.{operand_of, constant_of}
-use Rattle.ir_types.specs.TreeOf.{signed, literal_of}
+use Rattle.ir_types.specs.ModuleOf.{operand_of}
+use Rattle.ir_types.specs.TreeOf.{literal_of}
 use Rattle.ir_types.specs.Uses.{Context, item_problem}
 use Rattle.ir_types.specs.declared.rules.Here.{Here}
 use Rattle.ir_types.specs.declared.rules.Rule.TheVariants as rule

@@ -1,12 +1,12 @@
 -- The instructions of a block behind its allocas, in order.
-use Rattle.std.proofs.Common.{◌≡◌, ◌+◌, ◌++◌, ◌↔◌, ℕ, suc, Bool, true, false, List, [], ◌∷◌, Option, None, Some, length, map, take, slice_get, IsSome, if◌then◌else◌, refl, sym, ap, subst, ◌∙◌, append_assoc, append-nil, arith}
+use Rattle.std.proofs.Common.{◌≡◌, ◌+◌, ◌++◌, ◌↔◌, ℕ, suc, Bool, true, false, List, [], ◌∷◌, Option, None, Some, length, map, slice_get, IsSome, if◌then◌else◌, refl, sym, ap, subst, ◌∙◌, append_assoc, append-nil, arith}
 use Rattle.std.specs.List.{AllZip, filter_map, cons_option}
 use Rattle.std.specs.Option.{option_to_list, option_map, is_some}
 use Rattle.mc_num.specs.declared.op.Width.{Width}
 use Rattle.ir_types.specs.Program.{Program}
 use Rattle.ir_types.specs.Definitions.{Defined, define_some, name_of, name_problem}
 use Rattle.ir_types.specs.Same.{plain_instr}
-use Rattle.ir_types.specs.ModuleOf.{var_of, gives, instr_with, instr_of, vars_from, instrs_from}
+use Rattle.ir_types.specs.ModuleOf.{var_of, instr_with, instr_of, vars_from, instrs_from}
 use Rattle.ir_types.specs.Names.{spelled}
 use Rattle.ir_types.specs.Rules.{Reached, register, result_meaning, instr_problem, instrs_problem, after_instr, after_instrs}
 use Rattle.ir_types.specs.TreeOf.{type_tree, IsTreeInstr, IsTreeResult}
@@ -151,8 +151,8 @@ module _ (m : Program) (f : Function) (b : Block) (rules_of : IsBlockIn (scope m
       let next : Reached = after_instr r x in
       let later : (j : ℕ) (y : Instr) → slice_get is j ≡ Some y → slice_get b.instrs (next.instrs + j) ≡ Some y =
       λ j y e.
-          let number : r.instrs + suc j ≡ next.instrs + j = omega (arith, step.counted) in
-          subst (λ k. slice_get b.instrs k ≡ Some y) number (here (suc j) y e) in
+      let number : r.instrs + suc j ≡ next.instrs + j = omega (arith, step.counted) in
+      subst (λ k. slice_get b.instrs k ≡ Some y) number (here (suc j) y e) in
       let more : ArePassed next is xs ns = others_passed next is xs ns there later trees.1 step.ready in
       record {
         counted = more.counted ∙ (ap (λ (k : ℕ). k + length is) step.counted ∙ omega arith);

@@ -1,12 +1,12 @@
 -- What the names of a module's globals and functions mean.
-use Rattle.std.proofs.Common.{◌≡◌, ◌≢◌, ◌<◌, ◌+◌, ◌++◌, ℕ, zero, suc, Bool, true, false, List, [], ◌∷◌, Option, None, Some, length, map, slice_get, slice_index_or, All, refl, sym, ap, subst, ◌∙◌, append_assoc, append-nil, arith}
+use Rattle.std.proofs.Common.{◌≡◌, ◌≢◌, ◌<◌, ◌++◌, ℕ, suc, Bool, true, false, List, [], ◌∷◌, Some, length, map, slice_get, slice_index_or, refl, sym, ap, subst, append-nil, arith}
 use Rattle.std.specs.Prelude.{AllPairs}
 use Rattle.std.specs.List.{AllZip, AllByRecursion, IsDistinct}
 use Rattle.std.specs.Map.{keys_of}
 use Rattle.std.proofs.lemmas.List.Elements.{recursion_from_All}
 use Rattle.ir_types.specs.Program.{Program}
 use Rattle.ir_types.specs.Definitions.{Defined, same_name, nothing, meaning_of}
-use Rattle.ir_types.specs.Names.{spelled, IsSpellable, IsNameText}
+use Rattle.ir_types.specs.Names.{spelled, IsSpellable}
 use Rattle.ir_types.specs.TreeOf.{IsTreeFunction}
 use Rattle.ir_types.specs.WellFormed.{CountFrom, IsWellFormed, IsFunctionIn, IsGlobal, symbols}
 use Rattle.ir_types.specs.declared.name.Name.{Name}

@@ -1,5 +1,5 @@
 -- A use that the tree of a module spells has no problem, and means what it came from.
-use Rattle.std.proofs.Common.{◌≡◌, ◌≢◌, ◌<◌, ◌+◌, ◌++◌, ◌==◌, ◌&&◌, ◌||◌, not, nat_lt, nat_le, ℕ, zero, suc, Bool, true, false, List, [], ◌∷◌, Option, None, Some, IsSome, IsSomeAnd, length, map, take, slice_get, All, refl, sym, ap, subst, ◌∙◌, arith}
+use Rattle.std.proofs.Common.{◌≡◌, ◌<◌, ◌==◌, ◌&&◌, not, nat_le, ℕ, Bool, true, false, List, [], ◌∷◌, Option, None, Some, IsSome, length, map, take, slice_get, refl, sym, ap, subst, ◌∙◌, arith}
 use Rattle.std.specs.Option.{option_and_then, option_map_or, option_map, is_some}
 use Rattle.std.specs.List.{AllZip}
 use Rattle.std.proofs.lemmas.Bool.Decides.{nat_tests}
@@ -7,19 +7,17 @@ use Rattle.mc_num.specs.Op.{bits}
 use Rattle.mc_num.specs.declared.op.Width.{Width}
 use Rattle.ir_types.specs.Names.{spelled}
 use Rattle.ir_types.specs.Program.{Program}
-use Rattle.ir_types.specs.Problems.{broken, ◌>>◌}
 use Rattle.ir_types.specs.Definitions.{meaning_of}
 use Rattle.ir_types.specs.ModuleOf.{operand_of, operand_meaning, variable_of, variable_meaning, target_of, block_meaning, typed_operand, argument_of}
-use Rattle.ir_types.specs.Uses.{Context, same_width, same_type, is_undefined, is_across, is_other_value, is_other_variable, is_no_block, is_entry, item_problem, value_problem, address_meaning, address_problem, label_problem, typed_problem, argument_problem, arguments_problem}
-use Rattle.ir_types.specs.TreeOf.{type_tree, register_name, value_tree, address_tree, label_tree, AreTreeArguments, IsTreeFunction}
-use Rattle.ir_types.specs.WellFormed.{Scope, scope, widths, HasWidth, given_by, variable_width, IsBlockIn, IsNamed}
+use Rattle.ir_types.specs.Uses.{Context, same_width, is_undefined, is_across, is_other_value, is_other_variable, is_no_block, is_entry, item_problem, address_meaning, address_problem, label_problem, typed_problem, argument_problem, arguments_problem}
+use Rattle.ir_types.specs.TreeOf.{type_tree, value_tree, address_tree, label_tree, AreTreeArguments, IsTreeFunction}
+use Rattle.ir_types.specs.WellFormed.{scope, HasWidth, given_by, variable_width, IsBlockIn, IsNamed}
 use Rattle.ir_types.specs.declared.name.Name.{Name}
 use Rattle.ir_types.specs.declared.name.Name.TheVariants.{Text, Number as NumberName}
 use Rattle.ir_types.specs.declared.rules.Here.{Here}
 use Rattle.ir_types.specs.declared.rules.Meaning.{Meaning}
 use Rattle.ir_types.specs.declared.rules.Meaning.TheVariants as meaning
 use Rattle.ir_types.specs.declared.rules.Rule.TheVariants as rule
-use Rattle.ir_types.specs.declared.span.At.{At}
 use Rattle.ir_types.specs.declared.span.Span.{Span}
 use Rattle.ir_types.specs.declared.syntax.Block.{Block}
 use Rattle.ir_types.specs.declared.syntax.Function.{Function}
@@ -35,7 +33,6 @@ use Rattle.ir_types.specs.declared.tree.RawArg.{RawArg}
 use Rattle.ir_types.specs.declared.tree.RawParam.{RawParam}
 use Rattle.ir_types.specs.declared.tree.RawValue.{RawValue}
 use Rattle.ir_types.specs.declared.tree.RawValue.TheVariants as values
-use Rattle.ir_types.specs.declared.tree.Ty.{Ty}
 use Rattle.ir_types.specs.declared.tree.Ty.TheVariants.{Int}
 use Rattle.module_trees.proofs.Lists.{CameFrom, came_from, MappedFrom, mapped_from, HasItem, item_at, StandsBefore, stands_before, Beside, at_place}
 use Rattle.module_trees.proofs.Literals.{IsMeantLiteral, literal_meant}
@@ -210,7 +207,7 @@ module _ (m : Program) (f : Function) (c : Context) (known : Knows m f c) where
     argument_fits w o p a same type e h =
         let v : IsMeantValue c (record { block = k; instr = n }) w o a.value.span a.value.item = value_meant w o a.value.span a.value.item h e in (
           (λ i. typed_problem c (record { block = k; instr = n }) (same i) (type i) a.value)
-          ∙ (ap (λ (differs : Bool). item_problem c (record { block = k; instr = n }) w differs a.value.span a.value.item) (ap not (same_as_itself w)) ∙ v.problem),
+              ∙ (ap (λ (differs : Bool). item_problem c (record { block = k; instr = n }) w differs a.value.span a.value.item) (ap not (same_as_itself w)) ∙ v.problem),
           (λ i. typed_operand c (type i) a.value.item) ∙ v.means,
         )
 

@@ -1,22 +1,20 @@
 -- The tree of a module has no problem, and means the module.
-use Rattle.std.proofs.Common.{◌≡◌, ◌+◌, ◌++◌, ℕ, false, List, [], ◌∷◌, Option, None, Some, map, All, refl, sym, ap, subst, ◌∙◌, append_assoc, append-nil}
+use Rattle.std.proofs.Common.{◌≡◌, ◌+◌, ◌++◌, ℕ, false, List, [], ◌∷◌, Option, None, Some, map, refl, sym, ap, subst, ◌∙◌, append_assoc, append-nil}
 use Rattle.std.specs.List.{AllZip, AllByRecursion}
 use Rattle.std.specs.Option.{option_map_or}
 use Rattle.std.proofs.lemmas.List.Elements.{recursion_from_All}
-use Rattle.mc_num.specs.Op.{bits}
 use Rattle.mc_num.specs.declared.op.Width.{Width}
 use Rattle.ir_types.specs.Program.{Program}
 use Rattle.ir_types.specs.Problems.{◌>>◌}
-use Rattle.ir_types.specs.Definitions.{Defined, nothing, define, symbol_name, name_problem}
+use Rattle.ir_types.specs.Definitions.{Defined}
 use Rattle.ir_types.specs.Limits.{IsWithinLimits}
 use Rattle.ir_types.specs.Literals.{literal_value}
-use Rattle.ir_types.specs.ModuleOf.{width_of, constant_of, function_of, global_of, module_of}
-use Rattle.ir_types.specs.Names.{spelled}
-use Rattle.ir_types.specs.Order.{Item, Global as GlobalItem, Function as FunctionItem, items_in_order}
-use Rattle.ir_types.specs.Rules.{Passed, at_top, after_item, after_items, symbols_of, context_in, no_context, nowhere, item_problem, items_problem, tree_problem}
-use Rattle.ir_types.specs.Same.{plain, plain_function}
+use Rattle.ir_types.specs.ModuleOf.{width_of, function_of, global_of}
+use Rattle.ir_types.specs.Order.{Item, Global as GlobalItem, Function as FunctionItem}
+use Rattle.ir_types.specs.Rules.{Passed, at_top, after_item, after_items, symbols_of, context_in, no_context, nowhere, item_problem, items_problem}
+use Rattle.ir_types.specs.Same.{plain_function}
 use Rattle.ir_types.specs.TreeOf.{type_tree, literal_of, IsTreeFunction, IsTreeGlobal, IsTreeOf}
-use Rattle.ir_types.specs.Uses.{Context, value_problem, item_problem as value_item_problem}
+use Rattle.ir_types.specs.Uses.{item_problem as value_item_problem}
 use Rattle.ir_types.specs.WellFormed.{IsFunctionIn, IsGlobal, IsWellFormed}
 use Rattle.ir_types.specs.declared.name.Name.{Name}
 use Rattle.ir_types.specs.declared.name.Name.TheVariants.{Text}
