@@ -1,116 +1,174 @@
--- The tree of a block of the first form.
-use Rattle.std.proofs.Common.{◌≡◌, ◌+◌, ◌++◌, ℕ, List, ◌∷◌, Option, None, Some, length, map, refl, sym, ap, subst, ◌∙◌, append-nil, arith}
-use Rattle.std.specs.List.{AllZip, AllByRecursion, filter_map}
+-- The blocks of a function's tree, in order.
+use Rattle.std.proofs.Common.{◌≡◌, ◌+◌, ◌++◌, ℕ, suc, List, [], ◌∷◌, Option, None, Some, length, map, take, slice_get, All, refl, sym, ap, subst, ◌∙◌, append_assoc, append-nil, arith}
+use Rattle.std.specs.List.{AllZip, AllByRecursion}
 use Rattle.mc_num.specs.declared.op.Width.{Width}
-use Rattle.mc_num.specs.declared.op.Width.TheVariants.{I32}
-use Rattle.ir_types.specs.FirstForm.{plain_block, plain_names}
-use Rattle.ir_types.specs.ModuleOf.{block_of, term_of, vars_from}
+use Rattle.ir_types.specs.Program.{Program}
+use Rattle.ir_types.specs.Same.{plain_block, plain_names}
+use Rattle.ir_types.specs.ModuleOf.{block_of, vars_from, blocks_from, variables_from}
 use Rattle.ir_types.specs.Names.{spelled}
-use Rattle.ir_types.specs.Rules.{Defined, Reached, nothing, after_instrs, at_start, at_end, locals_of, term_problem, block_problem}
-use Rattle.ir_types.specs.TreeOf.{IsTreeBlock, IsTreeTerm, IsTreeResult, IsTreeValue, IsTreeInstr, IsTreeAlloca}
+use Rattle.ir_types.specs.Rules.{Reached, after_instrs, at_block, at_term, after_block, after_blocks, block_problem, blocks_problem}
+use Rattle.ir_types.specs.TreeOf.{IsTreeBlock, IsTreeTerm, IsTreeResult, IsTreeInstr, IsTreeAlloca}
+use Rattle.ir_types.specs.Uses.{Context}
+use Rattle.ir_types.specs.WellFormed.{scope, IsBlockIn, result_names, block_names}
 use Rattle.ir_types.specs.declared.name.Name.{Name}
 use Rattle.ir_types.specs.declared.rules.Meaning.{Meaning}
-use Rattle.ir_types.specs.declared.rules.Meaning.TheVariants.{Block as BlockMeaning}
+use Rattle.ir_types.specs.declared.rules.Meaning.TheVariants.{Block as BlockMeaning, Variable}
 use Rattle.ir_types.specs.declared.span.At.{At}
 use Rattle.ir_types.specs.declared.span.Span.{Span}
 use Rattle.ir_types.specs.declared.syntax.Block.{Block}
 use Rattle.ir_types.specs.declared.syntax.Function.{Function}
 use Rattle.ir_types.specs.declared.syntax.Instr.{Instr}
-use Rattle.ir_types.specs.declared.syntax.Operand.{Operand}
-use Rattle.ir_types.specs.declared.syntax.Terminator.TheVariants.{Return}
 use Rattle.ir_types.specs.declared.tree.RawBlock.{RawBlock}
 use Rattle.ir_types.specs.declared.tree.RawInstr.{RawInstr}
 use Rattle.ir_types.specs.declared.tree.RawTerm.{RawTerm}
-use Rattle.ir_types.specs.declared.tree.RawTerm.TheVariants as terms
-use Rattle.ir_types.specs.declared.tree.RawValue.{RawValue}
+use Rattle.module_trees.proofs.Allocas.{ArePassed as AllocasPassed, allocas_passed}
+use Rattle.module_trees.proofs.Endings.{term_meant}
+use Rattle.module_trees.proofs.Lists.{at_place}
+use Rattle.module_trees.proofs.Others.{ArePassed as OthersPassed, others_passed}
 use Rattle.module_trees.proofs.Problems.{then_none}
 use Rattle.module_trees.proofs.Ready.{IsReady, IsDefined, defined}
-use Rattle.module_trees.proofs.Uses.{Knows, IsUse, IsMeantValue, value_meant}
-use Rattle.module_trees.proofs.Allocas.{ArePassed as AllocasPassed, allocas_passed, variables_from}
-use Rattle.module_trees.proofs.Others.{ArePassed as OthersPassed, others_passed, AreFitting, registers_from}
-use Rattle.module_trees.proofs.Known.{knows, all_meanings}
+use Rattle.module_trees.proofs.Table.{numbered, registers_from, variables_from as variables_meant, of_block, of_blocks}
+use Rattle.module_trees.proofs.Uses.{Knows}
 
--- what is known of the block of a function of the first form
-pub record IsSoundBlock (f : Function) (b : Block) : Type 0 where
-  pub widths : AllByRecursion (λ v. v.0 ≡ I32) f.vars
-  pub fitting : AreFitting 0 b.instrs
-  pub ready : IsReady nothing (b.name ∷ (map (λ v. v.1) f.vars ++ filter_map (λ i. i.result) b.instrs))
-  pub value : Operand
-  pub ends : b.term ≡ Return (Some value)
-  pub use_of : IsUse (length b.instrs) value
+take_all : {X : Type 0} (xs : List X) (n : ℕ) → n ≡ length xs → take n xs ≡ xs
+take_all xs n e = ap (λ k. take k xs) e ∙ whole xs
+  where
+    whole : {X : Type 0} (xs : List X) → take (length xs) xs ≡ xs
+    whole [] = refl
+    whole (x ∷ xs) = ap (λ ys. x ∷ ys) (whole xs)
 
--- the tree of the terminator has no problem, and means the terminator
-record IsMeantTerm (b : Block) (locals : Defined) (here : ℕ) (word : Span) (t : RawTerm) : Type 0 where
-  problem : term_problem locals here word t ≡ None
-  means : term_of locals t ≡ b.term
+-- the meanings of a block are its label's, those of its variables and those of its registers
+joined : (ms start middle last : List (Name × Meaning)) (e : Name × Meaning) (vs rs : List (Name × Meaning)) → start ≡ ms ++ e ∷ [] → middle ≡ start ++ vs → last ≡ middle ++ rs
+    → last ≡ ms ++ (e ∷ (vs ++ rs))
+joined ms start middle last e vs rs f g h =
+    h
+    ∙ (ap (λ xs. xs ++ rs) g
+    ∙ (ap (λ xs. (xs ++ vs) ++ rs) f
+    ∙ (append_assoc (ms ++ e ∷ []) vs rs
+    ∙ append_assoc ms (e ∷ []) (vs ++ rs))))
 
-return_meant : (f : Function) (b : Block) (locals : Defined) (known : Knows locals f b) (here : ℕ) (word : Span) (o : Operand) (w : Width) (v : At RawValue)
-    → IsUse here o → w ≡ I32 → IsTreeValue b o v → b.term ≡ Return (Some o) → IsMeantTerm b locals here word (terms.Return (Some (w, v)))
-return_meant f b locals known here word o w v fits e tree ends =
-    let meant : IsMeantValue locals here o v = value_meant locals f b known here o v fits tree in
-    subst (λ (x : Width). IsMeantTerm b locals here word (terms.Return (Some (x, v)))) (sym e)
-    (record { problem = meant.problem; means = ap (λ (x : Operand). Return (Some x)) meant.means ∙ sym ends })
+moved : (first last : Reached) (ms rs ss : List (Name × Meaning)) → first ≡ last → last.before.meanings ≡ ms ++ rs → rs ≡ ss → first.before.meanings ≡ ms ++ ss
+moved first last ms rs ss e f g = ap (λ q. q.before.meanings) e ∙ (f ∙ ap (λ xs. ms ++ xs) g)
 
-term_meant : (f : Function) (b : Block) (locals : Defined) (known : Knows locals f b) (here : ℕ) (word : Span) (o : Operand) (t : RawTerm)
-    → IsUse here o → b.term ≡ Return (Some o) → IsTreeTerm b (Return (Some o)) t → IsMeantTerm b locals here word t
-term_meant f b locals known here word o (terms.Return (Some r)) fits ends tree = return_meant f b locals known here word o r.0 r.1 fits tree.0 tree.1 ends
-term_meant f b locals known here word o (terms.Return None) fits ends tree = elim tree [ ]
-term_meant f b locals known here word o (terms.Jump l) fits ends tree = elim tree [ ]
-term_meant f b locals known here word o (terms.Branch v l k) fits ends tree = elim tree [ ]
-term_meant f b locals known here word o (terms.Switch w v l cases) fits ends tree = elim tree [ ]
-term_meant f b locals known here word o terms.Unreachable fits ends tree = elim tree [ ]
+module _ (m : Program) (f : Function) where
+  -- ---- one block
 
--- the tree of a block has no problem, and means the block
-pub record IsMeantBlock (f : Function) (b : Block) (x : RawBlock) : Type 0 where
-  pub problem : block_problem x ≡ None
-  pub vars_are : vars_from (at_start x) x.instrs ≡ plain_names f.vars
-  pub means : block_of x ≡ plain_block b
+  -- a block with its tree is passed
+  pub record IsPassed (r : Reached) (vars : List (Width × Name)) (b : Block) (x : RawBlock) (ns : List Name) : Type 0 where
+    pub block : (at_term r x).block ≡ r.block
+    pub meanings : (at_term r x).before.meanings ≡ r.before.meanings ++ of_block (scope m f) r.block vars b
+    pub ready : IsReady (at_term r x).before ns
+    pub vars_are : vars_from (at_block r x) x.instrs ≡ plain_names vars
+    pub problem : (c : Context) → Knows m f c → block_problem c r x ≡ None
+    pub means : (c : Context) → Knows m f c → block_of c r x ≡ plain_block b
 
-module _ (f : Function) (b : Block) (sound : IsSoundBlock f b) (written : At Name) (allocas others : List RawInstr) (term : RawTerm) (word : Span) where
-  tree : RawBlock
-  tree = record { label = Some written; instrs = allocas ++ others; term = term; term_word = word }
+  module _ (r : Reached) (vars : List (Width × Name)) (b : Block) (ns : List Name) (there : slice_get f.blocks r.block ≡ Some b) (rules_of : IsBlockIn (scope m f) b)
+      (written : At Name) (allocas others : List RawInstr) (term : RawTerm) (word : Span) where
+    tree : RawBlock
+    tree = record { label = Some written; instrs = allocas ++ others; term = term; term_word = word }
 
-  with_parts : written.item ≡ spelled b.name → AllZip IsTreeAlloca f.vars allocas → AllZip (IsTreeInstr f b) b.instrs others → IsTreeTerm b b.term term → IsMeantBlock f b tree
+    with_parts : AllByRecursion (λ v. r.block ≡ 0) vars → numbered Variable r.variables vars ≡ variables_meant 0 vars
+        → IsReady r.before (b.name ∷ (map (λ v. v.1) vars ++ (result_names b ++ ns)))
+        → written.item ≡ spelled b.name → AllZip IsTreeAlloca vars allocas → AllZip (IsTreeInstr m f b) b.instrs others → IsTreeTerm f b b.term term
+        → IsPassed r vars b tree ns
+    unfolding tree
+    with_parts entry start ready label are_allocas are_others tree_term =
+        let first : IsDefined r.before b.name (map (λ v. v.1) vars ++ (result_names b ++ ns)) (BlockMeaning r.block) written =
+        defined r.before b.name (map (λ (v : Width × Name). v.1) vars ++ (result_names b ++ ns)) (BlockMeaning r.block) written ready label in
+        let begin : Reached = at_block r tree in
+        let one : AllocasPassed begin vars allocas others (result_names b ++ ns) = allocas_passed begin vars allocas others (result_names b ++ ns) refl entry are_allocas first.ready in
+        let middle : Reached = one.after in
+        let there_then : slice_get f.blocks middle.block ≡ Some b = subst (λ k. slice_get f.blocks k ≡ Some b) (sym one.block) there in
+        let instr_here : (j : ℕ) (i : Instr) → slice_get b.instrs j ≡ Some i → slice_get b.instrs (middle.instrs + j) ≡ Some i =
+        λ j i e.
+        let number : j ≡ middle.instrs + j = omega (arith, one.none_yet) in
+        subst (λ k. slice_get b.instrs k ≡ Some i) number e in
+        let two : OthersPassed m f b rules_of middle b.instrs others ns = others_passed m f b rules_of middle b.instrs others ns there_then instr_here are_others one.ready in
+        let end_is : at_term r tree ≡ after_instrs middle others = one.reached in
+        let block_is : (at_term r tree).block ≡ r.block = ap (λ (q : Reached). q.block) end_is ∙ (two.block ∙ one.block) in
+        let count_is : (at_term r tree).instrs ≡ length b.instrs = ap (λ (q : Reached). q.instrs) end_is ∙ (two.counted ∙ (ap (λ (k : ℕ). k + length b.instrs) one.none_yet ∙ omega arith)) in
+        let there_at_end : slice_get f.blocks (at_term r tree).block ≡ Some b = subst (λ k. slice_get f.blocks k ≡ Some b) (sym block_is) there in
+        let registers : List (Name × Meaning) = registers_from (scope m f) r.block 0 b.instrs in
+        let variables_are : middle.before.meanings ≡ begin.before.meanings ++ variables_meant 0 vars = one.meanings ∙ ap (λ (ms : List (Name × Meaning)). begin.before.meanings ++ ms) start in
+        let registers_here : registers_from (scope m f) middle.block middle.instrs b.instrs ≡ registers = λ i. registers_from (scope m f) (one.block i) (one.none_yet i) b.instrs in
+        let registers_are : (at_term r tree).before.meanings ≡ middle.before.meanings ++ registers =
+        moved (at_term r tree) (after_instrs middle others) middle.before.meanings (registers_from (scope m f) middle.block middle.instrs b.instrs) registers end_is two.meanings registers_here in
+        record {
+          block = block_is;
+          meanings = joined r.before.meanings begin.before.meanings middle.before.meanings (at_term r tree).before.meanings (spelled b.name, BlockMeaning r.block) (variables_meant 0 vars) registers
+              first.meanings variables_are registers_are;
+          ready = subst (λ (q : Reached). IsReady q.before ns) (sym end_is) two.ready;
+          vars_are = one.vars_are ∙ (ap (λ (tail : List (Width × Name)). plain_names vars ++ tail) two.vars_are ∙ append-nil (plain_names vars));
+          problem = λ c known.
+              then_none _ _ first.problem
+              (then_none _ _ (one.problem c ∙ two.problem c known)
+              (term_meant m f c known (at_term r tree).block b there_at_end rules_of (at_term r tree).instrs (take_all b.instrs (at_term r tree).instrs count_is) word term tree_term).problem);
+          means = λ c known.
+              let ended = term_meant m f c known (at_term r tree).block b there_at_end rules_of (at_term r tree).instrs (take_all b.instrs (at_term r tree).instrs count_is) word term tree_term in
+              λ i. record {
+                name = label i;
+                instrs = (one.instrs_are c ∙ two.means c known) i;
+                term = ended.means i;
+              };
+        }
+
+  label_written : (n : Name) (o : Option (At Name)) → IsTreeResult (Some n) o → (at : At Name) × (o ≡ Some at) × (at.item ≡ spelled n)
+  label_written n None h = elim h [ ]
+  label_written n (Some at) h = (at, refl, h)
+
+  pub block_passed : (r : Reached) (vars : List (Width × Name)) (b : Block) (x : RawBlock) (ns : List Name) → slice_get f.blocks r.block ≡ Some b → IsBlockIn (scope m f) b
+      → AllByRecursion (λ v. r.block ≡ 0) vars → numbered Variable r.variables vars ≡ variables_meant 0 vars
+      → IsReady r.before (b.name ∷ (map (λ v. v.1) vars ++ (result_names b ++ ns))) → IsTreeBlock m f vars b x → IsPassed r vars b x ns
   unfolding tree
-  with_parts label are_allocas are_others tree_term =
-      let results : List Name = filter_map (λ (i : Instr). i.result) b.instrs in
-      let ns : List Name = map (λ (v : Width × Name). v.1) f.vars ++ results in
-      let first : IsDefined nothing b.name ns BlockMeaning written = defined nothing b.name ns BlockMeaning written sound.ready label in
-      let start : Reached = at_start tree in
-      let one : AllocasPassed start f.vars allocas others results = allocas_passed start f.vars allocas others results refl sound.widths are_allocas first.ready in
-      let two : OthersPassed f b one.after b.instrs others =
-      others_passed f b one.after b.instrs others (subst (λ k. AreFitting k b.instrs) (sym one.none_yet) sound.fitting) are_others one.ready in
-      let end_is : at_end tree ≡ after_instrs one.after others = one.reached in
-      let locals : Defined = locals_of tree in
-      let locals_are : (after_instrs one.after others).before ≡ locals = ap (λ (r : Reached). r.before) (sym end_is) in
-      let here_is : (at_end tree).instrs ≡ length b.instrs = ap (λ (r : Reached). r.instrs) end_is ∙ (two.counted ∙ (ap (λ (k : ℕ). k + length b.instrs) one.none_yet ∙ omega arith)) in
-      let meanings : (after_instrs one.after others).before.meanings ≡ all_meanings f b =
-      two.meanings
-      ∙ (ap (λ (k : ℕ). one.after.before.meanings ++ registers_from k b.instrs) one.none_yet
-      ∙ (ap (λ (ms : List (Name × Meaning)). ms ++ registers_from 0 b.instrs) one.meanings
-      ∙ ap (λ (ms : List (Name × Meaning)). (ms ++ variables_from 0 f.vars) ++ registers_from 0 b.instrs) first.meanings)) in
-      let known : Knows locals f b = subst (λ d. Knows d f b) locals_are (knows (after_instrs one.after others).before f b two.ready meanings) in
-      let fits : IsUse (at_end tree).instrs sound.value = subst (λ k. IsUse k sound.value) (sym here_is) sound.use_of in
-      let ended : IsMeantTerm b locals (at_end tree).instrs word term =
-      term_meant f b locals known (at_end tree).instrs word sound.value term fits sound.ends (subst (λ t. IsTreeTerm b t term) sound.ends tree_term) in
+  block_passed r vars b x ns there rules_of entry start ready t =
+      let named = label_written b.name x.label t.label in
+      let whole : tree r vars b ns there rules_of named.0 t.allocas t.others x.term x.term_word ≡ x =
+      λ i. record { label = sym named.1 i; instrs = sym t.instrs i; term = x.term; term_word = x.term_word } in
+      subst (λ y. IsPassed r vars b y ns) whole
+      (with_parts r vars b ns there rules_of named.0 t.allocas t.others x.term x.term_word entry start ready named.2 t.are_allocas t.are_others t.term)
+
+  -- ---- all blocks behind the first
+
+  pub record ArePassed (r : Reached) (bs : List Block) (xs : List RawBlock) : Type 0 where
+    pub meanings : (after_blocks r xs).before.meanings ≡ r.before.meanings ++ of_blocks (scope m f) r.block bs
+    pub ready : IsReady (after_blocks r xs).before []
+    pub vars_are : variables_from r xs ≡ []
+    pub problem : (c : Context) → Knows m f c → blocks_problem c r xs ≡ None
+    pub means : (c : Context) → Knows m f c → blocks_from c r xs ≡ map plain_block bs
+
+  pub blocks_passed : (r : Reached) (bs : List Block) (xs : List RawBlock) → All (IsBlockIn (scope m f)) f.blocks
+      → ((j : ℕ) (b : Block) → slice_get bs j ≡ Some b → slice_get f.blocks (r.block + j) ≡ Some b) → AllZip (IsTreeBlock m f []) bs xs
+      → IsReady r.before (block_names bs) → ArePassed r bs xs
+  unfolding after_blocks variables_from blocks_problem blocks_from
+  blocks_passed r [] (x ∷ xs) rules_of there trees ready = elim trees [ ]
+  blocks_passed r (b ∷ bs) [] rules_of there trees ready = elim trees [ ]
+  blocks_passed r [] [] rules_of there trees ready = record {
+    meanings = sym (append-nil r.before.meanings);
+    ready = ready;
+    vars_are = refl;
+    problem = λ c known. refl;
+    means = λ c known. refl;
+  }
+  blocks_passed r (b ∷ bs) (x ∷ xs) rules_of there trees ready =
+      let first : r.block + 0 ≡ r.block = omega arith in
+      let here : slice_get f.blocks r.block ≡ Some b = subst (λ k. slice_get f.blocks k ≡ Some b) first (there 0 b refl) in
+      let step : IsPassed r [] b x (block_names bs) =
+      block_passed r [] b x (block_names bs) here (at_place (IsBlockIn (scope m f)) f.blocks rules_of r.block b here) tt refl ready trees.0 in
+      let next : Reached = after_block r x in
+      let next_is : next.block ≡ r.block + 1 = ap (λ (k : ℕ). k + 1) step.block in
+      let later : (j : ℕ) (y : Block) → slice_get bs j ≡ Some y → slice_get f.blocks (next.block + j) ≡ Some y =
+      λ j y e.
+      let number : r.block + suc j ≡ next.block + j = omega (arith, next_is) in
+      subst (λ k. slice_get f.blocks k ≡ Some y) number (there (suc j) y e) in
+      let more : ArePassed next bs xs = blocks_passed next bs xs rules_of later trees.1 step.ready in
       record {
-        problem = then_none _ _ first.problem (then_none _ _ (one.problem locals ∙ two.problem locals known) ended.problem);
-        vars_are = one.vars_are ∙ (ap (λ (tail : List (Width × Name)). plain_names f.vars ++ tail) two.vars_are ∙ append-nil (plain_names f.vars));
-        means = λ i. record {
-          name = label i;
-          instrs = (one.instrs_are locals ∙ two.means locals known) i;
-          term = ended.means i;
-        };
+        meanings =
+            more.meanings
+            ∙ (ap (λ (k : ℕ). next.before.meanings ++ of_blocks (scope m f) k bs) next_is
+            ∙ (ap (λ (ms : List (Name × Meaning)). ms ++ of_blocks (scope m f) (r.block + 1) bs) step.meanings
+            ∙ append_assoc r.before.meanings (of_block (scope m f) r.block [] b) (of_blocks (scope m f) (r.block + 1) bs)));
+        ready = more.ready;
+        vars_are = (λ i. step.vars_are i ++ more.vars_are i);
+        problem = λ c known. then_none _ _ (step.problem c known) (more.problem c known);
+        means = λ c known. λ i. step.means c known i ∷ more.means c known i;
       }
-
-nothing_else : (x : RawBlock) (written : Option (At Name)) → x.label ≡ written → (n : Name) → IsTreeResult (Some n) written → (at : At Name) × (x.label ≡ Some at) × (at.item ≡ spelled n)
-nothing_else x None e n h = elim h [ ]
-nothing_else x (Some at) e n h = (at, e, h)
-
-pub block_meant : (f : Function) (b : Block) → IsSoundBlock f b → (x : RawBlock) → IsTreeBlock f b x → IsMeantBlock f b x
-unfolding tree
-block_meant f b sound x t =
-    let named = nothing_else x x.label refl b.name t.label in
-    let whole : tree f b sound named.0 t.allocas t.others x.term x.term_word ≡ x =
-    λ i. record { label = sym named.1 i; instrs = sym t.instrs i; term = x.term; term_word = x.term_word } in
-    subst (IsMeantBlock f b) whole (with_parts f b sound named.0 t.allocas t.others x.term x.term_word named.2 t.are_allocas t.are_others t.term)

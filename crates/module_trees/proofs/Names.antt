@@ -1,7 +1,7 @@
 -- The test for the same name.
 use Rattle.std.proofs.Common.{◌≡◌, Bool, true, false, refl, sym, ap, ◌∙◌, Decides, rules}
 use Rattle.std.specs.Cmp.{IsEquivalence}
-use Rattle.ir_types.specs.Rules.{same_name}
+use Rattle.ir_types.specs.Definitions.{same_name}
 use Rattle.ir_types.specs.declared.name.Name.{Name}
 
 pub same : (a b : Name) → same_name a b ≡ true → a ≡ b

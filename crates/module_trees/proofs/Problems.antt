@@ -1,6 +1,6 @@
 -- Parts without a problem.
 use Rattle.std.proofs.Common.{◌≡◌, Bool, false, Option, None, ap}
-use Rattle.ir_types.specs.Rules.{broken, ◌>>◌}
+use Rattle.ir_types.specs.Problems.{broken, ◌>>◌}
 use Rattle.ir_types.specs.declared.rules.Problem.{Problem}
 use Rattle.ir_types.specs.declared.rules.Rule.{Rule}
 use Rattle.ir_types.specs.declared.span.Span.{Span}

@@ -6,7 +6,7 @@ use Rattle.std.proofs.lemmas.List.{map_push}
 use Rattle.std.proofs.lemmas.Map.Entries.{lookup_tail}
 use Rattle.std.proofs.lemmas.Bool.Decides.{nat_tests}
 use Rattle.ir_types.specs.Names.{spelled, IsSpellable}
-use Rattle.ir_types.specs.Rules.{Defined, same_name, define, name_problem, is_other_number, with_meaning}
+use Rattle.ir_types.specs.Definitions.{Defined, same_name, define, name_problem, is_other_number, with_meaning}
 use Rattle.ir_types.specs.WellFormed.{CountFrom}
 use Rattle.ir_types.specs.declared.name.Name.{Name}
 use Rattle.ir_types.specs.declared.name.Name.TheVariants.{Text, Number, Made}
