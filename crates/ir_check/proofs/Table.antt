@@ -4,7 +4,7 @@ use Rattle.indexmap.specs.IndexMap.{IndexMap, get, insert_entry}
 use Rattle.indexmap.proofs.CallerLemmas.{insert_entry-new}
 use Rattle.ir_types.specs.declared.name.Name.{Name}
 use Rattle.ir_types.specs.declared.rules.Meaning.{Meaning}
-use Rattle.ir_types.specs.Rules.{same_name, with_meaning}
+use Rattle.ir_types.specs.Definitions.{same_name, with_meaning}
 
 is_none : {X : Type 0} (r : Option X) → is_some r ≡ false → r ≡ None
 is_none None h = refl

@@ -1,10 +1,12 @@
 //! What names mean, by a table.
 ghost use Rattle.std.specs.Prelude.{◌≡◌, OnOk};
-ghost use Rattle.ir_types.specs.Rules.{meaning_of, nothing, define, name_of, is_counted, with_meaning};
+ghost use Rattle.ir_types.specs.Definitions.{meaning_of, nothing, define, define_some, name_of, name_problem, is_counted, is_number, is_other_number, symbol_name, with_meaning};
+ghost use Rattle.ir_check.specs.Answers.{IsAnswer};
 
+use crate::error::{CheckError, refuse_if};
 use indexmap::IndexMap;
-use ir_types::name::Name;
-use ir_types::rules::Meaning;
+use ir_types::name::{Name, Spelling};
+use ir_types::rules::{Meaning, Rule};
 use ir_types::span::At;
 use std::alloc::{AllocError, Global};
 use std::marker::Model;
@@ -17,7 +19,7 @@ pub struct Definitions<'a> {
 }
 
 impl<'a> Model for Definitions<'a> {
-    ghost use Rattle.ir_types.specs.Rules.{Defined};
+    ghost use Rattle.ir_types.specs.Definitions.{Defined};
 
     ghost Value = { Defined };
 
@@ -43,13 +45,6 @@ impl<'a> Definitions<'a> {
             Some(meaning) => Some(*meaning),
             None => None,
         }
-    }
-
-    /// The number of the next thing without a name.
-    pub fn next(&self) -> u32
-        ensures { result ≡ self.now.next }
-    {
-        self.next
     }
 
     /// The name of a definition: the written one, or the next number.
@@ -87,6 +82,58 @@ impl<'a> Definitions<'a> {
         }
         Ok(())
     }
+
+    /// One definition more, where there is one.
+    pub fn define_some(
+        &mut self,
+        written: &Option<At<Name<'a>>>,
+        meaning: Option<Meaning>,
+    ) -> Result<(), AllocError>
+        ensures { OnOk result (self.new ≡ define_some self.old written.now meaning) }
+    {
+        match meaning {
+            Some(meaning) => self.define(written, meaning),
+            None => Ok(()),
+        }
+    }
+
+    fn is_other_number(&self, name: &Name<'a>) -> bool
+        ensures { result ≡ is_other_number self.now name.now }
+    {
+        match name {
+            Name::Number(number) => *number != self.next,
+            _ => false,
+        }
+    }
+
+    /// Refuses the written name of one definition more, if it is a second one or not the next number.
+    pub fn check_name(&self, written: &Option<At<Name<'a>>>) -> Result<(), CheckError>
+        ensures { IsAnswer result (name_problem self.now written.now) }
+    {
+        if let Some(written) = written {
+            refuse_if(
+                self.meaning_of(&written.item).is_some(),
+                Rule::Duplicate,
+                written.span,
+            )?;
+            return refuse_if(
+                self.is_other_number(&written.item),
+                Rule::BadNumber,
+                written.span,
+            );
+        }
+        Ok(())
+    }
+}
+
+/// A name of the tree, as the names of a function are written.
+pub fn symbol_name<'a>(name: &At<Spelling<'a>>) -> Option<At<Name<'a>>>
+    ensures { result ≡ symbol_name name.now }
+{
+    Some(At {
+        item: Name::Text(name.item.copied()),
+        span: name.span,
+    })
 }
 
 fn is_counted(written: &Option<At<Name<'_>>>) -> bool
@@ -99,7 +146,7 @@ fn is_counted(written: &Option<At<Name<'_>>>) -> bool
 }
 
 fn is_number(name: &Name<'_>) -> bool
-    ensures { result ≡ Rattle.ir_types.specs.Rules.is_number name.now }
+    ensures { result ≡ is_number name.now }
 {
     matches!(name, Name::Number(_))
 }

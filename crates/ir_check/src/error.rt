@@ -1,7 +1,7 @@
 //! Why a tree has no module.
 ghost use Rattle.ir_check.specs.Answers.{IsAnswer};
 ghost use Rattle.ir_check.specs.declared.error.CheckError.TheVariants.{NoMemory};
-ghost use Rattle.ir_types.specs.Rules.{broken};
+ghost use Rattle.ir_types.specs.Problems.{broken};
 ghost use Rattle.std.specs.Prelude.{◌≡◌};
 
 use ir_types::rules::{Problem, Rule};
