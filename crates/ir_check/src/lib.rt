@@ -4,5 +4,8 @@
 mod definitions;
 mod error;
 mod literals;
+mod meanings;
+mod types;
+mod uses;
 
 pub use error::CheckError;
