@@ -1,6 +1,9 @@
 -- What the table of definitions keeps.
-use Rattle.std.proofs.Common.{◌≡◌, Bool, false, List, [], ◌∷◌, ◌++◌, Option, None, Some, is_some, if◌then◌else◌, refl, sym, ap, ◌∙◌}
+use Rattle.std.proofs.Common.{◌≡◌, ◌==◌, ℕ, nat_eq, arith, Bool, false, List, [], ◌∷◌, ◌++◌, Option, None, Some, is_some, if◌then◌else◌, refl, sym, ap, ◌∙◌}
 use Rattle.indexmap.specs.IndexMap.{IndexMap, get, insert_entry}
+use Rattle.indexmap.specs.IndexSet.{insert_key}
+use Rattle.std.specs.List.{list_any}
+use Rattle.std.proofs.lemmas.Bool.Decides.{nat_tests}
 use Rattle.indexmap.proofs.CallerLemmas.{insert_entry-new}
 use Rattle.ir_types.specs.declared.name.Name.{Name}
 use Rattle.ir_types.specs.declared.rules.Meaning.{Meaning}
@@ -14,3 +17,14 @@ pub added : {S : Type 0} (m : IndexMap Name Meaning S) (k : Name) (v : Meaning) 
 added m k v new absent h =
     let e = insert_entry-new same_name m k v (is_none (get same_name m k) absent) in
     h ∙ (e ∙ sym (ap (λ (b : Bool). if b then m.entries else (m.entries ++ (k, v) ∷ [])) absent))
+
+same_test : (a b : ℕ) → (a == b) ≡ (b == a)
+same_test a b = grind (arith, nat_tests)
+
+any_same : (ks : List ℕ) (v : ℕ) → list_any (λ x. x == v) ks ≡ list_any (nat_eq v) ks
+any_same [] v = refl
+any_same (k ∷ ks) v = rw (same_test k v, any_same ks v) refl
+
+-- a value that no case had goes last
+pub noted : (ks : List ℕ) (v : ℕ) (new : List ℕ) → list_any (λ x. x == v) ks ≡ false → new ≡ insert_key nat_eq ks v → new ≡ ks ++ v ∷ []
+noted ks v new absent h = h ∙ ap (λ (b : Bool). if b then ks else (ks ++ v ∷ [])) (sym (any_same ks v) ∙ absent)

@@ -1,10 +1,12 @@
 //! The rules of a tree: the module that it means, or its first problem.
 #![tactic(auto)]
 
+mod calls;
 mod definitions;
 mod error;
 mod literals;
 mod meanings;
+mod terms;
 mod types;
 mod uses;
 

@@ -119,6 +119,13 @@ impl<'m, 'a> Context<'m, 'a> {
         }
     }
 
+    /// What a name means in the function.
+    pub fn local(&self, name: &Name<'a>) -> Option<Meaning>
+        ensures { result ≡ meaning_of self.now.locals name.now }
+    {
+        self.locals.meaning_of(name)
+    }
+
     fn address_meaning(&self, address: &Address<'a>) -> Option<Meaning>
         ensures { result ≡ address_meaning self.now address.now }
     {

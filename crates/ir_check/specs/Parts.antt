@@ -1,0 +1,32 @@
+-- What is wrong with a call or a switch, and what it becomes.
+use Rattle.std.specs.Prelude.{ℕ, Bool, List, [], length, map, Option}
+use Rattle.mc_num.specs.declared.op.Width.{Width}
+use Rattle.ir_types.specs.Problems.{◌>>◌}
+use Rattle.ir_types.specs.Uses.{Context, value_problem, label_problem, cases_problem, callee_problem, arguments_problem, params_of}
+use Rattle.ir_types.specs.ModuleOf.{operand_of, argument_of, function_number, target_of, case_of}
+use Rattle.ir_types.specs.declared.span.At.{At}
+use Rattle.ir_types.specs.declared.name.Name.{Name}
+use Rattle.ir_types.specs.declared.rules.Here.{Here}
+use Rattle.ir_types.specs.declared.rules.Problem.{Problem}
+use Rattle.ir_types.specs.declared.syntax.Kind.{Kind}
+use Rattle.ir_types.specs.declared.syntax.Kind.TheVariants.{Call}
+use Rattle.ir_types.specs.declared.syntax.Terminator.{Terminator}
+use Rattle.ir_types.specs.declared.syntax.Terminator.TheVariants.{Switch}
+use Rattle.ir_types.specs.declared.tree.RawValue.{RawValue}
+use Rattle.ir_types.specs.declared.tree.RawArg.{RawArg}
+use Rattle.ir_types.specs.declared.tree.RawCase.{RawCase}
+use Rattle.ir_types.specs.declared.tree.Ty.{Ty}
+
+-- the callee, and then the arguments where its parameters are due
+abbrev pub call_problem : Context → Here → Ty → Bool → At (List ℕ) → List RawArg → Option Problem
+call_problem c here type named callee args = callee_problem c type named (length args) callee >> arguments_problem c here (params_of c callee.item) args
+
+abbrev pub call_of : Context → List ℕ → List RawArg → Kind
+call_of c callee args = Call (function_number c callee) (map (argument_of c) args)
+
+-- the value, the label without a case, and then the cases
+abbrev pub switch_problem : Context → Here → Width → At RawValue → At Name → List RawCase → Option Problem
+switch_problem c here w v other cases = value_problem c here w v >> label_problem c here other >> cases_problem c here w [] cases
+
+abbrev pub switch_of : Context → Width → RawValue → Name → List RawCase → Terminator
+switch_of c w v other cases = Switch w (operand_of c w v) (target_of c other) (map (case_of c w) cases)
