@@ -7,6 +7,8 @@ use Rattle.std.proofs.lemmas.Bool.Decides.{nat_tests}
 use Rattle.indexmap.proofs.CallerLemmas.{insert_entry-new}
 use Rattle.ir_types.specs.declared.name.Name.{Name}
 use Rattle.ir_types.specs.declared.rules.Meaning.{Meaning}
+use Rattle.std.specs.Prelude.{option_to_list}
+use Rattle.ir_types.specs.Uses.{is_seen}
 use Rattle.ir_types.specs.Definitions.{same_name, with_meaning}
 
 is_none : {X : Type 0} (r : Option X) → is_some r ≡ false → r ≡ None
@@ -25,6 +27,12 @@ any_same : (ks : List ℕ) (v : ℕ) → list_any (λ x. x == v) ks ≡ list_any
 any_same [] v = refl
 any_same (k ∷ ks) v = rw (same_test k v, any_same ks v) refl
 
+one_more : (ks : List ℕ) (v : ℕ) → list_any (λ x. x == v) ks ≡ false → insert_key nat_eq ks v ≡ ks ++ v ∷ []
+one_more ks v absent = ap (λ (b : Bool). if b then ks else (ks ++ v ∷ [])) (sym (any_same ks v) ∙ absent)
+
 -- a value that no case had goes last
-pub noted : (ks : List ℕ) (v : ℕ) (new : List ℕ) → list_any (λ x. x == v) ks ≡ false → new ≡ insert_key nat_eq ks v → new ≡ ks ++ v ∷ []
-noted ks v new absent h = h ∙ ap (λ (b : Bool). if b then ks else (ks ++ v ∷ [])) (sym (any_same ks v) ∙ absent)
+pub noted : (ks : List ℕ) (o : Option ℕ) (v : ℕ) (new : List ℕ) → o ≡ Some v → is_seen ks o ≡ false → new ≡ insert_key nat_eq ks v → new ≡ ks ++ option_to_list o
+noted ks None v new is absent h = cc
+noted ks (Some u) v new is absent h =
+    let same : u ≡ v = cc in
+    h ∙ (ap (λ w. insert_key nat_eq ks w) (sym same) ∙ one_more ks u absent)

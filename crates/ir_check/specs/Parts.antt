@@ -1,9 +1,11 @@
--- What is wrong with a call or a switch, and what it becomes.
-use Rattle.std.specs.Prelude.{ℕ, Bool, List, [], length, map, Option}
+-- Parts of what instructions and terminators become, and of what is wrong with them.
+use Rattle.std.specs.Prelude.{ℕ, Bool, List, [], length, map, Option, Some, None, if◌then◌else◌}
 use Rattle.mc_num.specs.declared.op.Width.{Width}
 use Rattle.ir_types.specs.Problems.{◌>>◌}
+use Rattle.ir_types.specs.Definitions.{name_of}
+use Rattle.ir_types.specs.Rules.{Reached}
 use Rattle.ir_types.specs.Uses.{Context, value_problem, label_problem, cases_problem, callee_problem, arguments_problem, params_of}
-use Rattle.ir_types.specs.ModuleOf.{operand_of, argument_of, function_number, target_of, case_of}
+use Rattle.ir_types.specs.ModuleOf.{gives, operand_of, argument_of, function_number, target_of, case_of}
 use Rattle.ir_types.specs.declared.span.At.{At}
 use Rattle.ir_types.specs.declared.name.Name.{Name}
 use Rattle.ir_types.specs.declared.rules.Here.{Here}
@@ -14,6 +16,7 @@ use Rattle.ir_types.specs.declared.syntax.Terminator.{Terminator}
 use Rattle.ir_types.specs.declared.syntax.Terminator.TheVariants.{Switch}
 use Rattle.ir_types.specs.declared.tree.RawValue.{RawValue}
 use Rattle.ir_types.specs.declared.tree.RawArg.{RawArg}
+use Rattle.ir_types.specs.declared.tree.RawInstr.{RawInstr}
 use Rattle.ir_types.specs.declared.tree.RawCase.{RawCase}
 use Rattle.ir_types.specs.declared.tree.Ty.{Ty}
 
@@ -23,6 +26,10 @@ call_problem c here type named callee args = callee_problem c type named (length
 
 abbrev pub call_of : Context → List ℕ → List RawArg → Kind
 call_of c callee args = Call (function_number c callee) (map (argument_of c) args)
+
+-- the name of what an instruction gives, if it gives anything
+abbrev pub result_of : Reached → RawInstr → Option Name
+result_of r x = if gives x.kind then Some (name_of r.before x.result) else None
 
 -- the value, the label without a case, and then the cases
 abbrev pub switch_problem : Context → Here → Width → At RawValue → At Name → List RawCase → Option Problem

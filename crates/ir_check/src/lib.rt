@@ -4,8 +4,10 @@
 mod calls;
 mod definitions;
 mod error;
+mod instrs;
 mod literals;
 mod meanings;
+mod reached;
 mod terms;
 mod types;
 mod uses;

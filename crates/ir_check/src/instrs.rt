@@ -1,0 +1,182 @@
+//! What the instructions of a block become, or what is wrong with them.
+ghost use Rattle.std.specs.Prelude.{◌≡◌, [], ◌∷◌, ◌++◌, ◌<◌, ◌+◌, ◌^◌, length, is_some, IfOk, OnOk, option_to_list};
+ghost use Rattle.ir_types.specs.Rules.{after_instrs, here, instr_problem, instrs_problem, kind_problem};
+ghost use Rattle.ir_types.specs.ModuleOf.{gives, instr_of, instrs_from, kind_of, var_of, vars_from};
+ghost use Rattle.ir_types.specs.declared.syntax.Kind.TheVariants.{Compute};
+ghost use Rattle.ir_check.specs.Answers.{IsAnswer};
+ghost use Rattle.ir_check.specs.Parts.{result_of};
+
+use crate::calls::call;
+use crate::error::{CheckError, refuse_if};
+use crate::reached::Reached;
+use crate::types::{fits_widths, is_same_width};
+use crate::uses::Context;
+use ir_types::items::Items;
+use ir_types::name::Name;
+use ir_types::operands::Operands;
+use ir_types::rules::{Problem, Rule};
+use ir_types::syntax::{Instr, Kind, Operand};
+use ir_types::tree::{RawInstr, RawKind, Ty};
+use mc_num::{Op, Width};
+use std::alloc::{AllocError, Global};
+
+/// The operation of these operands.
+fn compute(alloc: Global, op: Op, operands: &[Operand]) -> Result<Kind, AllocError>
+    ensures { IfOk result (λ kind. kind ≡ Compute op operands.now) }
+{
+    let mut made = Operands::new(alloc);
+    for operand in operands {
+        made.push(*operand)?;
+    }
+    Ok(Kind::Compute(op, made))
+}
+
+/// What an instruction does, or what is wrong with it behind its name; an alloca does nothing.
+fn kind<'m, 'a>(
+    alloc: Global,
+    context: &Context<'m, 'a>,
+    reached: &Reached<'a>,
+    instr: &RawInstr<'a>,
+) -> Result<Option<Kind>, CheckError>
+    ensures problem { IsAnswer result (kind_problem context.now reached.now (is_some instr.now.result) instr.now.word instr.now.kind) }
+    ensures kind { IfOk result (λ kind. kind ≡ kind_of context.now instr.now.kind) }
+{
+    let here = reached.here();
+    match &instr.kind {
+        RawKind::Alloca(_) => {
+            let late = !(here.block == 0 && here.instr == 0);
+            refuse_if(late, Rule::LateAlloca, instr.word)?;
+            Ok(None)
+        }
+        RawKind::Load(width, address) => {
+            Ok(Some(Kind::Load(context.variable(here, *width, address)?)))
+        }
+        RawKind::Store(width, value, address) => {
+            let value = context.operand(here, *width, false, value)?;
+            let variable = context.variable(here, *width, address)?;
+            Ok(Some(Kind::Store(value, variable)))
+        }
+        RawKind::Bin(op, width, one, other) => {
+            let one = context.operand(here, *width, false, one)?;
+            let other = context.operand(here, *width, false, other)?;
+            Ok(Some(compute(alloc, Op::Bin(*op, *width), &[one, other])?))
+        }
+        RawKind::Icmp(pred, width, one, other) => {
+            let one = context.operand(here, *width, false, one)?;
+            let other = context.operand(here, *width, false, other)?;
+            Ok(Some(compute(alloc, Op::Icmp(*pred, *width), &[one, other])?))
+        }
+        RawKind::Cast(cast, width, value, to) => {
+            let value = context.operand(here, *width, false, value)?;
+            let other = !fits_widths(*cast, *width, to.item);
+            refuse_if(other, Rule::BadType, to.span)?;
+            Ok(Some(compute(alloc, Op::Cast(*cast, *width, to.item), &[value])?))
+        }
+        RawKind::Select(test, width, one, second, other) => {
+            let test = context.operand(here, Width::I1, false, test)?;
+            let one = context.operand(here, *width, false, one)?;
+            let differs = !is_same_width(second.item, *width);
+            refuse_if(differs, Rule::BadType, second.span)?;
+            let other = context.operand(here, *width, false, other)?;
+            Ok(Some(compute(alloc, Op::Select(*width), &[test, one, other])?))
+        }
+        RawKind::Call(ty, callee, arguments) => {
+            let named = instr.result.is_some();
+            let arguments = arguments.as_slice();
+            Ok(Some(call(alloc, context, here, *ty, named, callee, arguments)?))
+        }
+        RawKind::Phi(_, _) => {
+            Err(CheckError::Broken(Problem {
+                rule: Rule::Phi,
+                span: instr.word,
+            }))
+        }
+    }
+}
+
+/// Whether an instruction gives a result: a store and a call of a `void` function give none.
+fn gives(kind: &RawKind<'_>) -> bool
+    ensures { result ≡ gives kind.now }
+{
+    match kind {
+        RawKind::Store(_, _, _) => false,
+        RawKind::Call(Ty::Int(_), _, _) => true,
+        RawKind::Call(_, _, _) => false,
+        _ => true,
+    }
+}
+
+/// The variable that an instruction makes.
+fn var<'a>(reached: &Reached<'a>, instr: &RawInstr<'a>) -> Option<(Width, Name<'a>)>
+    ensures { result ≡ var_of reached.now instr.now instr.now.kind }
+{
+    match &instr.kind {
+        RawKind::Alloca(width) => Some((*width, reached.before().name_of(&instr.result))),
+        _ => None,
+    }
+}
+
+/// The name of what an instruction gives, if it gives anything.
+fn result_name<'a>(reached: &Reached<'a>, instr: &RawInstr<'a>) -> Option<Name<'a>>
+    ensures { result ≡ result_of reached.now instr.now }
+{
+    if gives(&instr.kind) {
+        Some(reached.before().name_of(&instr.result))
+    } else {
+        None
+    }
+}
+
+/// The instruction that another makes, or what is wrong with it.
+fn instr<'m, 'a>(
+    alloc: Global,
+    context: &Context<'m, 'a>,
+    reached: &Reached<'a>,
+    instr: &RawInstr<'a>,
+) -> Result<Option<Instr<'a>>, CheckError>
+    ensures problem { IsAnswer result (instr_problem context.now reached.now instr.now) }
+    ensures instr { IfOk result (λ made. made ≡ instr_of context.now reached.now instr.now) }
+{
+    reached.before().check_name(&instr.result)?;
+    match kind(alloc, context, reached, instr)? {
+        Some(kind) => {
+            let result = result_name(reached, instr);
+            Ok(Some(Instr { result, kind }))
+        }
+        None => Ok(None),
+    }
+}
+
+/// Puts an item at the end, where there is one.
+fn push_some<T: Drop>(items: &mut Vec<T>, item: Option<T>) -> Result<(), AllocError>
+    ensures { OnOk result (items.new.items ≡ items.old.items ++ option_to_list item.entry) }
+{
+    if let Some(item) = item {
+        items.push(item)?;
+    }
+    Ok(())
+}
+
+/// What instructions become, or what is wrong with them; they are passed on the way, and the variables that they make
+/// go behind `variables`.
+pub fn instrs<'m, 'a>(
+    alloc: Global,
+    context: &Context<'m, 'a>,
+    reached: &mut Reached<'a>,
+    variables: &mut Vec<(Width, Name<'a>)>,
+    instrs: &[RawInstr<'a>],
+) -> Result<Items<Instr<'a>>, CheckError>
+    requires few { reached.old.variables + reached.old.instrs + length instrs.now < 2 ^ 32 }
+    ensures problem { IsAnswer result (instrs_problem context.now reached.old instrs.now) }
+    ensures after { OnOk result (reached.new ≡ after_instrs reached.old instrs.now) }
+    ensures variables { OnOk result (variables.new.items ≡ variables.old.items ++ vars_from reached.old instrs.now) }
+    ensures instrs { IfOk result (λ made. made ≡ instrs_from context.now reached.old instrs.now) }
+{
+    let mut made = Vec::new(alloc);
+    for each in instrs {
+        push_some(&mut made, instr(alloc, context, reached, each)?)?;
+        push_some(variables, var(reached, each))?;
+        reached.pass(each)?;
+    }
+    Ok(Items::from(made))
+}
