@@ -1,11 +1,12 @@
 -- Loops over the parts of a tree: what is left after one part more.
-use Rattle.std.proofs.Common.{◌≡◌, ◌<◌, ◌≤◌, ◌+◌, ℕ, suc, List, [], ◌∷◌, ◌++◌, append_assoc, append-nil, Option, None, length, map, get_or, drop, drop-cons, add-one, refl, sym, ap, ◌∙◌}
+use Rattle.std.proofs.Common.{◌≡◌, ◌<◌, ◌≤◌, ◌+◌, ℕ, suc, Bool, true, false, List, [], ◌∷◌, ◌++◌, append_assoc, append-nil, Option, None, length, map, get_or, drop, drop-cons, add-one, refl, sym, ap, ◌∙◌, arith}
 use Rattle.std.proofs.lemmas.List.{drop_all}
-use Rattle.std.specs.Prelude.{option_to_list}
+use Rattle.std.specs.Prelude.{option_to_list, if◌then◌else◌}
 use Rattle.mc_num.specs.declared.op.Width.{Width}
 use Rattle.ir_types.specs.Problems.{◌>>◌}
 use Rattle.ir_types.specs.Definitions.{Defined, define, name_of, name_problem}
 use Rattle.ir_types.specs.Literals.{literal_value}
+use Rattle.ir_types.specs.Limits.{is_alloca}
 use Rattle.ir_types.specs.Uses.{Context, argument_problem, arguments_problem, case_problem, cases_problem}
 use Rattle.ir_types.specs.Rules.{Reached, after_instr, after_instrs, instr_problem, instrs_problem, at_block, after_block, after_blocks, block_problem, blocks_problem, after_params, params_problem}
 use Rattle.ir_types.specs.ModuleOf.{var_of, instr_of, vars_from, instrs_from, block_of, blocks_from, variables_from, params_from, numbered_from}
@@ -43,6 +44,14 @@ drop_end xs i h = drop_all i xs h
 -- what was built and what is left to build make the whole
 pub more : {X : Type 0} (built front zs ys new all : List X) → new ≡ built ++ front → ys ≡ front ++ zs → built ++ ys ≡ all → new ++ zs ≡ all
 more built front zs ys new all n e h = rw (n, append_assoc) (ap (λ l. built ++ l) (sym e) ∙ h)
+
+-- the same of one item
+pub more_one : {X : Type 0} (built : List X) (put next : X) (zs ys new all : List X) → new ≡ built ++ put ∷ [] → put ≡ next → ys ≡ next ∷ zs → built ++ ys ≡ all → new ++ zs ≡ all
+more_one built put next zs ys new all n same e h = more built (next ∷ []) zs ys new all (n ∙ ap (λ x. built ++ x ∷ []) same) e h
+
+-- the same where an item may be missing
+pub more_some : {X : Type 0} (built : List X) (put next : Option X) (zs ys new all : List X) → new ≡ built ++ option_to_list put → put ≡ next → ys ≡ option_to_list next ++ zs → built ++ ys ≡ all → new ++ zs ≡ all
+more_some built put next zs ys new all n same e h = more built (option_to_list next) zs ys new all (n ∙ ap (λ o. built ++ option_to_list o) same) e h
 
 pub ended : {X : Type 0} (built ys all : List X) → ys ≡ [] → built ++ ys ≡ all → built ≡ all
 ended built ys all e h = sym (append-nil built) ∙ (ap (λ l. built ++ l) (sym e) ∙ h)
@@ -178,3 +187,11 @@ module _ (r : Reached) (xs : List RawBlock) (i : ℕ) where
   pub variables_from-end : length xs ≤ i → variables_from r (drop i xs) ≡ []
   unfolding variables_from
   variables_from-end h = rw (drop_end xs i h) refl
+
+-- one instruction more stands before the place
+pub counted : (r : Reached) (x : RawInstr) → (after_instr r x).variables + (after_instr r x).instrs ≡ r.variables + r.instrs + 1
+counted r x = by (is_alloca x.kind)
+  where
+    by : (b : Bool) → (if b then r.variables + 1 else r.variables) + (if b then r.instrs else r.instrs + 1) ≡ r.variables + r.instrs + 1
+    by true = omega arith
+    by false = omega arith

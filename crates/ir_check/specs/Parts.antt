@@ -1,21 +1,25 @@
 -- Parts of what instructions and terminators become, and of what is wrong with them.
-use Rattle.std.specs.Prelude.{ℕ, Bool, List, [], length, map, Option, Some, None, if◌then◌else◌}
+use Rattle.std.specs.Prelude.{ℕ, ◌&&◌, not, Bool, List, [], length, map, Option, Some, None, if◌then◌else◌}
 use Rattle.mc_num.specs.declared.op.Width.{Width}
-use Rattle.ir_types.specs.Problems.{◌>>◌}
-use Rattle.ir_types.specs.Definitions.{name_of}
-use Rattle.ir_types.specs.Rules.{Reached}
+use Rattle.ir_types.specs.Problems.{◌>>◌, broken}
+use Rattle.ir_types.specs.Definitions.{Defined, name_of, nothing}
+use Rattle.ir_types.specs.Rules.{Reached, at_body, body_problem, context_in, is_known_external, is_nil}
+use Rattle.ir_types.specs.Limits.{is_above_limits}
 use Rattle.ir_types.specs.Uses.{Context, value_problem, label_problem, cases_problem, callee_problem, arguments_problem, params_of}
-use Rattle.ir_types.specs.ModuleOf.{gives, operand_of, argument_of, function_number, target_of, case_of}
+use Rattle.ir_types.specs.ModuleOf.{gives, operand_of, argument_of, function_number, target_of, case_of, width_of, numbered_from, params_from, variables_from, blocks_from}
 use Rattle.ir_types.specs.declared.span.At.{At}
 use Rattle.ir_types.specs.declared.name.Name.{Name}
 use Rattle.ir_types.specs.declared.rules.Here.{Here}
 use Rattle.ir_types.specs.declared.rules.Problem.{Problem}
+use Rattle.ir_types.specs.declared.rules.Rule.TheVariants.{UnknownExternal, Limit}
+use Rattle.ir_types.specs.declared.syntax.Function.{Function}
 use Rattle.ir_types.specs.declared.syntax.Kind.{Kind}
 use Rattle.ir_types.specs.declared.syntax.Kind.TheVariants.{Call}
 use Rattle.ir_types.specs.declared.syntax.Terminator.{Terminator}
 use Rattle.ir_types.specs.declared.syntax.Terminator.TheVariants.{Switch}
 use Rattle.ir_types.specs.declared.tree.RawValue.{RawValue}
 use Rattle.ir_types.specs.declared.tree.RawArg.{RawArg}
+use Rattle.ir_types.specs.declared.tree.RawFunction.{RawFunction}
 use Rattle.ir_types.specs.declared.tree.RawInstr.{RawInstr}
 use Rattle.ir_types.specs.declared.tree.RawCase.{RawCase}
 use Rattle.ir_types.specs.declared.tree.Ty.{Ty}
@@ -37,3 +41,22 @@ switch_problem c here w v other cases = value_problem c here w v >> label_proble
 
 abbrev pub switch_of : Context → Width → RawValue → Name → List RawCase → Terminator
 switch_of c w v other cases = Switch w (operand_of c w v) (target_of c other) (map (case_of c w) cases)
+
+-- ---- functions
+
+-- what is wrong with a function behind its name
+abbrev pub function_problem : List RawFunction → Defined → RawFunction → Option Problem
+function_problem functions symbols f =
+    broken UnknownExternal f.name.span (is_nil f.blocks && not (is_known_external f)) >>
+    broken Limit f.name.span (is_above_limits f) >>
+    body_problem (context_in functions symbols f) f
+
+-- what a function with these surroundings becomes
+abbrev pub function_in : Context → RawFunction → Function
+function_in c f = record {
+  name = f.name.item;
+  ret = width_of f.ret;
+  params = if is_nil f.blocks then numbered_from 0 f.params else params_from 0 nothing f.params;
+  vars = variables_from (at_body f) f.blocks;
+  blocks = blocks_from c (at_body f) f.blocks;
+}

@@ -149,7 +149,7 @@ fn instr<'m, 'a>(
 
 /// Puts an item at the end, where there is one.
 fn push_some<T: Drop>(items: &mut Vec<T>, item: Option<T>) -> Result<(), AllocError>
-    ensures { OnOk result (items.new.items ≡ items.old.items ++ option_to_list item.entry) }
+    ensures { OnOk result (items.new.items ≡ items.old.items ++ option_to_list item) }
 {
     if let Some(item) = item {
         items.push(item)?;

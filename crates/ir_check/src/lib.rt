@@ -1,10 +1,13 @@
 //! The rules of a tree: the module that it means, or its first problem.
 #![tactic(auto)]
 
+mod blocks;
 mod calls;
 mod definitions;
 mod error;
+mod functions;
 mod instrs;
+mod limits;
 mod literals;
 mod meanings;
 mod reached;
