@@ -1,3 +1,5 @@
+pub mod InOrder
 pub mod Room
+pub mod Sizes
 pub mod Steps
 pub mod Table

@@ -3,6 +3,7 @@
 
 mod blocks;
 mod calls;
+mod checking;
 mod definitions;
 mod error;
 mod functions;
@@ -12,7 +13,9 @@ mod literals;
 mod meanings;
 mod reached;
 mod terms;
+mod tree;
 mod types;
 mod uses;
 
+pub use checking::check;
 pub use error::CheckError;
