@@ -13,7 +13,8 @@ use Rattle.ir_types.specs.declared.syntax.Function.{Function as FunctionMade}
 use Rattle.ir_types.specs.declared.tree.RawFunction.{RawFunction}
 use Rattle.ir_types.specs.declared.tree.RawGlobal.{RawGlobal}
 use Rattle.ir_types.specs.declared.tree.Raw.{Raw}
-use Rattle.ir_check.specs.Items.{IsFew, earlier, function_in, global_in, made_of, next_item}
+use Rattle.ir_check.specs.declared.tree.Part.{Part}
+use Rattle.ir_check.specs.Items.{IsFew, earlier, function_in, global_in, item_in, made_of, next_item}
 
 -- what is left from an index on
 from_index : {X : Type 0} (xs : List X) (i : ℕ) (x : X) → slice_get xs i ≡ Some x → drop i xs ≡ x ∷ drop (suc i) xs
@@ -121,3 +122,15 @@ items_problem-step functions symbols p x xs rest e = rw e refl
 pub items_problem-end : (functions : List RawFunction) (symbols : Defined) (p : Passed) (gs : List RawGlobal) (fs : List RawFunction) → (gs ≡ []) × (fs ≡ []) → items_problem functions symbols p (merged gs fs) ≡ None
 unfolding items_problem merged
 items_problem-end functions symbols p gs fs e = rw (e.0, e.1) refl
+
+-- what the code finds is the next item
+pub found : (o : Option Part) (part : Part) (n : Option Item) → option_map item_in o ≡ n → o ≡ Some part → n ≡ Some (item_in part)
+found o part n e is = sym e ∙ ap (λ (o : Option Part). option_map item_in o) is
+
+pub not_found : (o : Option Part) (n : Option Item) → option_map item_in o ≡ n → o ≡ None → n ≡ None
+not_found o n e is = sym e ∙ ap (λ (o : Option Part). option_map item_in o) is
+
+-- one item less is left
+pub shorter : (raw : Raw) (p : Passed) (x : Item) (s : Passed) → ComesFirst raw p x → s ≡ after_item p x
+    → length (merged (drop s.globals raw.globals) (drop s.functions raw.functions)) < length (merged (drop p.globals raw.globals) (drop p.functions raw.functions))
+shorter raw p x s first e = rw (e, first.order) (omega arith)
