@@ -25,3 +25,6 @@ pub fn check<'a>(alloc: Global, raw: &Raw<'a>) -> Result<Module<'a>, CheckError>
     let Parts { globals, functions } = tree_parts(alloc, raw)?;
     Ok(Module::new(globals, functions))
 }
+
+#[cfg(test)]
+mod tests;

@@ -19,3 +19,4 @@ mod uses;
 
 pub use checking::check;
 pub use error::CheckError;
+pub use limits::within_limits;
