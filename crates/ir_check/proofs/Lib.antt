@@ -1,4 +1,5 @@
 pub mod InOrder
+pub mod Last
 pub mod Room
 pub mod Sizes
 pub mod Steps

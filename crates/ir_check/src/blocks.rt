@@ -41,10 +41,7 @@ fn pass_block<'a>(reached: &mut Reached<'a>, block: &RawBlock<'a>) -> Result<(),
 }
 
 /// Goes behind blocks.
-pub fn pass_blocks<'a>(
-    reached: &mut Reached<'a>,
-    blocks: &[RawBlock<'a>],
-) -> Result<(), AllocError>
+pub fn pass_blocks<'a>(reached: &mut Reached<'a>, blocks: &[RawBlock<'a>]) -> Result<(), AllocError>
     requires few { reached.old.block + reached.old.variables + blocks_size blocks.now < 2 ^ 32 }
     ensures { OnOk result (reached.new ≡ after_blocks reached.old blocks.now) }
 {
@@ -74,13 +71,7 @@ fn block<'m, 'a>(
     let name = reached.before().name_of(&block.label);
     reached.enter(block)?;
     let instrs = instrs(alloc, context, reached, variables, block.instrs.as_slice())?;
-    let term = term(
-        alloc,
-        context,
-        reached.here(),
-        block.term_word,
-        &block.term,
-    )?;
+    let term = term(alloc, context, reached.here(), block.term_word, &block.term)?;
     reached.leave();
     Ok(Block { name, instrs, term })
 }

@@ -5,13 +5,13 @@ ghost use Rattle.ir_types.specs.ModuleOf.{argument_of};
 ghost use Rattle.ir_check.specs.Answers.{IsAnswer};
 ghost use Rattle.ir_check.specs.Parts.{call_problem, call_of};
 
-use crate::error::{CheckError, refuse_if};
+use crate::error::{CheckError, broken, refuse_if};
 use crate::meanings::is_undefined;
 use crate::types::is_same_width;
 use crate::uses::Context;
 use ir_types::items::Items;
 use ir_types::name::Spelling;
-use ir_types::rules::{Here, Problem, Rule};
+use ir_types::rules::{Here, Rule};
 use ir_types::span::At;
 use ir_types::syntax::{Kind, Operand};
 use ir_types::tree::{RawArg, RawParam, RawValue, Ty};
@@ -31,10 +31,7 @@ fn escape<'m, 'a>(
         let undefined = is_undefined(here, context.local(name));
         refuse_if(undefined, Rule::Undefined, value.span)?;
     }
-    Err(CheckError::Broken(Problem {
-        rule: Rule::Escapes,
-        span: value.span,
-    }))
+    Err(broken(Rule::Escapes, value.span))
 }
 
 /// What an argument stands for where one of this width is due, or what is wrong with it.

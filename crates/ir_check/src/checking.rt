@@ -12,6 +12,7 @@ use crate::tree::{Parts, tree_parts};
 use ir_types::module::Module;
 use ir_types::tree::Raw;
 use std::alloc::Global;
+use tree_rules::checked_trees;
 
 /// The module that a tree means. `Broken` comes with the first broken rule of the tree in text order, and at one place
 /// with the smallest.
@@ -23,6 +24,7 @@ pub fn check<'a>(alloc: Global, raw: &Raw<'a>) -> Result<Module<'a>, CheckError>
     ensures limits { IfOk result (λ m. All IsWithinLimits m.functions) }
 {
     let Parts { globals, functions } = tree_parts(alloc, raw)?;
+    checked_trees();
     Ok(Module::new(globals, functions))
 }
 

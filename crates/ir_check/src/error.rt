@@ -1,6 +1,6 @@
 //! Why a tree has no module.
 ghost use Rattle.ir_check.specs.Answers.{IsAnswer};
-ghost use Rattle.ir_check.specs.declared.error.CheckError.TheVariants.{NoMemory};
+ghost use Rattle.ir_check.specs.declared.error.CheckError.TheVariants.{Broken, NoMemory};
 ghost use Rattle.ir_types.specs.Problems.{broken};
 ghost use Rattle.std.specs.Prelude.{◌≡◌};
 
@@ -31,12 +31,19 @@ impl<T: Drop> From<AllocFailed<T>> for CheckError {
     }
 }
 
+/// The error of a rule that is broken at a place.
+pub fn broken(rule: Rule, span: Span) -> CheckError
+    ensures { result ≡ Broken (record { rule = rule; span = span }) }
+{
+    CheckError::Broken(Problem { rule, span })
+}
+
 /// Refuses a rule that is broken at a place.
 pub fn refuse_if(is_broken: bool, rule: Rule, span: Span) -> Result<(), CheckError>
     ensures { IsAnswer result (broken rule span is_broken) }
 {
     if is_broken {
-        return Err(CheckError::Broken(Problem { rule, span }));
+        return Err(broken(rule, span));
     }
     Ok(())
 }

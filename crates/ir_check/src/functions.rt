@@ -22,18 +22,12 @@ use mc_num::Width;
 use std::alloc::{AllocError, Global};
 
 /// Goes behind parameters.
-fn pass_params<'a>(
-    before: &mut Definitions<'a>,
-    params: &[RawParam<'a>],
-) -> Result<(), AllocError>
+fn pass_params<'a>(before: &mut Definitions<'a>, params: &[RawParam<'a>]) -> Result<(), AllocError>
     requires few { length params.now < 2 ^ 32 }
     ensures { OnOk result (before.new ≡ after_params 0 before.old params.now) }
 {
     for (index, param) in params.iter().enumerate() {
-        before.define(
-            &param.name,
-            Meaning::Parameter(index as u32, param.width),
-        )?;
+        before.define(&param.name, Meaning::Parameter(index as u32, param.width))?;
     }
     Ok(())
 }
@@ -65,10 +59,7 @@ fn params<'a>(
     for (index, param) in params.iter().enumerate() {
         before.check_name(&param.name)?;
         made.push((param.width, before.name_of(&param.name)))?;
-        before.define(
-            &param.name,
-            Meaning::Parameter(index as u32, param.width),
-        )?;
+        before.define(&param.name, Meaning::Parameter(index as u32, param.width))?;
     }
     Ok(Items::from(made))
 }

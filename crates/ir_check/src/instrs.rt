@@ -1,22 +1,24 @@
 //! What the instructions of a block become, or what is wrong with them.
 ghost use Rattle.std.specs.Prelude.{◌≡◌, [], ◌∷◌, ◌++◌, ◌<◌, ◌+◌, ◌^◌, length, is_some, IfOk, OnOk, option_to_list};
 ghost use Rattle.ir_types.specs.Rules.{after_instrs, here, instr_problem, instrs_problem, kind_problem};
-ghost use Rattle.ir_types.specs.ModuleOf.{gives, instr_of, instrs_from, kind_of, var_of, vars_from};
+ghost use Rattle.ir_types.specs.ModuleOf.{gives, instr_of, instrs_from, kind_of, operand_of, var_of, vars_from};
+ghost use Rattle.mc_num.specs.declared.op.Width.TheVariants.{I1};
 ghost use Rattle.ir_types.specs.declared.syntax.Kind.TheVariants.{Compute};
 ghost use Rattle.ir_check.specs.Answers.{IsAnswer};
-ghost use Rattle.ir_check.specs.Parts.{result_of};
+ghost use Rattle.ir_check.specs.Parts.{choice_problem, pair_of, pair_problem, result_of};
 
 use crate::calls::call;
-use crate::error::{CheckError, refuse_if};
+use crate::error::{CheckError, broken, refuse_if};
 use crate::reached::Reached;
 use crate::types::{fits_widths, is_same_width};
 use crate::uses::Context;
 use ir_types::items::Items;
 use ir_types::name::Name;
 use ir_types::operands::Operands;
-use ir_types::rules::{Problem, Rule};
+use ir_types::rules::{Here, Rule};
+use ir_types::span::At;
 use ir_types::syntax::{Instr, Kind, Operand};
-use ir_types::tree::{RawInstr, RawKind, Ty};
+use ir_types::tree::{RawInstr, RawKind, RawValue, Ty};
 use mc_num::{Op, Width};
 use std::alloc::{AllocError, Global};
 
@@ -31,6 +33,43 @@ fn compute(alloc: Global, op: Op, operands: &[Operand]) -> Result<Kind, AllocErr
     Ok(Kind::Compute(op, made))
 }
 
+/// What two values of one width stand for, or what is wrong with them.
+fn pair<'m, 'a>(
+    context: &Context<'m, 'a>,
+    here: Here,
+    width: Width,
+    one: &At<RawValue<'a>>,
+    other: &At<RawValue<'a>>,
+) -> Result<[Operand; 2], CheckError>
+    ensures problem { IsAnswer result (pair_problem context.now here width one.now other.now) }
+    ensures operands { IfOk result (λ operands. operands ≡ pair_of context.now width one.now.item other.now.item) }
+{
+    let one = context.operand(here, width, false, one)?;
+    let other = context.operand(here, width, false, other)?;
+    Ok([one, other])
+}
+
+/// What the values of a select stand for, or what is wrong with them; `second` is the type written for the last one.
+fn choice<'m, 'a>(
+    context: &Context<'m, 'a>,
+    here: Here,
+    width: Width,
+    test: &At<RawValue<'a>>,
+    one: &At<RawValue<'a>>,
+    second: &At<Width>,
+    other: &At<RawValue<'a>>,
+) -> Result<[Operand; 3], CheckError>
+    ensures problem { IsAnswer result (choice_problem context.now here width test.now one.now second.now other.now) }
+    ensures operands { IfOk result (λ operands. operands ≡ operand_of context.now I1 test.now.item ∷ pair_of context.now width one.now.item other.now.item) }
+{
+    let test = context.operand(here, Width::I1, false, test)?;
+    let one = context.operand(here, width, false, one)?;
+    let differs = !is_same_width(second.item, width);
+    refuse_if(differs, Rule::BadType, second.span)?;
+    let other = context.operand(here, width, false, other)?;
+    Ok([test, one, other])
+}
+
 /// What an instruction does, or what is wrong with it behind its name; an alloca does nothing.
 fn kind<'m, 'a>(
     alloc: Global,
@@ -42,56 +81,50 @@ fn kind<'m, 'a>(
     ensures kind { IfOk result (λ kind. kind ≡ kind_of context.now instr.now.kind) }
 {
     let here = reached.here();
-    match &instr.kind {
+    let kind = match &instr.kind {
         RawKind::Alloca(_) => {
             let late = !(here.block == 0 && here.instr == 0);
             refuse_if(late, Rule::LateAlloca, instr.word)?;
-            Ok(None)
+            return Ok(None);
         }
-        RawKind::Load(width, address) => {
-            Ok(Some(Kind::Load(context.variable(here, *width, address)?)))
-        }
+        RawKind::Load(width, address) => Kind::Load(context.variable(here, *width, address)?),
         RawKind::Store(width, value, address) => {
             let value = context.operand(here, *width, false, value)?;
-            let variable = context.variable(here, *width, address)?;
-            Ok(Some(Kind::Store(value, variable)))
+            Kind::Store(value, context.variable(here, *width, address)?)
         }
         RawKind::Bin(op, width, one, other) => {
-            let one = context.operand(here, *width, false, one)?;
-            let other = context.operand(here, *width, false, other)?;
-            Ok(Some(compute(alloc, Op::Bin(*op, *width), &[one, other])?))
+            let operands = pair(context, here, *width, one, other)?;
+            compute(alloc, Op::Bin(*op, *width), &operands)?
         }
         RawKind::Icmp(pred, width, one, other) => {
-            let one = context.operand(here, *width, false, one)?;
-            let other = context.operand(here, *width, false, other)?;
-            Ok(Some(compute(alloc, Op::Icmp(*pred, *width), &[one, other])?))
+            let operands = pair(context, here, *width, one, other)?;
+            compute(alloc, Op::Icmp(*pred, *width), &operands)?
         }
         RawKind::Cast(cast, width, value, to) => {
             let value = context.operand(here, *width, false, value)?;
             let other = !fits_widths(*cast, *width, to.item);
             refuse_if(other, Rule::BadType, to.span)?;
-            Ok(Some(compute(alloc, Op::Cast(*cast, *width, to.item), &[value])?))
+            compute(alloc, Op::Cast(*cast, *width, to.item), &[value])?
         }
         RawKind::Select(test, width, one, second, other) => {
-            let test = context.operand(here, Width::I1, false, test)?;
-            let one = context.operand(here, *width, false, one)?;
-            let differs = !is_same_width(second.item, *width);
-            refuse_if(differs, Rule::BadType, second.span)?;
-            let other = context.operand(here, *width, false, other)?;
-            Ok(Some(compute(alloc, Op::Select(*width), &[test, one, other])?))
+            let operands = choice(context, here, *width, test, one, second, other)?;
+            compute(alloc, Op::Select(*width), &operands)?
         }
         RawKind::Call(ty, callee, arguments) => {
             let named = instr.result.is_some();
-            let arguments = arguments.as_slice();
-            Ok(Some(call(alloc, context, here, *ty, named, callee, arguments)?))
+            call(
+                alloc,
+                context,
+                here,
+                *ty,
+                named,
+                callee,
+                arguments.as_slice(),
+            )?
         }
-        RawKind::Phi(_, _) => {
-            Err(CheckError::Broken(Problem {
-                rule: Rule::Phi,
-                span: instr.word,
-            }))
-        }
-    }
+        RawKind::Phi(_, _) => return Err(broken(Rule::Phi, instr.word)),
+    };
+    Ok(Some(kind))
 }
 
 /// Whether an instruction gives a result: a store and a call of a `void` function give none.

@@ -36,14 +36,13 @@ fn others_in(instrs: &[RawInstr<'_>]) -> usize
 }
 
 fn raw_slot_count(term: &RawTerm<'_>) -> usize
-    requires { raw_slot_count term.now < 2 ^ 64 }
     ensures { result ≡ raw_slot_count term.now }
 {
     match term {
         RawTerm::Return(_) | RawTerm::Unreachable => 0,
         RawTerm::Jump(_) => 1,
         RawTerm::Branch(_, _, _) => 2,
-        RawTerm::Switch(_, _, _, cases) => 1 + cases.len(),
+        RawTerm::Switch(_, _, _, cases) => 1 + cases.as_slice().len(),
     }
 }
 
@@ -68,8 +67,7 @@ fn instrs_of(blocks: &[RawBlock<'_>]) -> usize
 }
 
 fn slots_of(blocks: &[RawBlock<'_>]) -> usize
-    requires each { All (λ b. raw_slot_count b.term < 2 ^ 64) blocks.now }
-    requires few { sum_by (λ b. raw_slot_count b.term) blocks.now < 2 ^ 64 }
+    requires { sum_by (λ b. raw_slot_count b.term) blocks.now < 2 ^ 64 }
     ensures { result ≡ sum_by (λ b. raw_slot_count b.term) blocks.now }
 {
     blocks.iter().map(|block| raw_slot_count(&block.term)).sum()
@@ -97,7 +95,7 @@ fn slot_count(term: &Terminator) -> usize
         Terminator::Return(_) | Terminator::Unreachable => 0,
         Terminator::Jump(_) => 1,
         Terminator::Branch(_, _, _) => 2,
-        Terminator::Switch(_, _, _, cases) => 1 + cases.len(),
+        Terminator::Switch(_, _, _, cases) => 1 + cases.as_slice().len(),
     }
 }
 

@@ -103,7 +103,8 @@ impl<'a> Reached<'a> {
     pub fn enter(&mut self, block: &RawBlock<'a>) -> Result<(), AllocError>
         ensures { OnOk result (self.new ≡ at_block self.old block.now) }
     {
-        self.before.define(&block.label, Meaning::Block(self.block))?;
+        self.before
+            .define(&block.label, Meaning::Block(self.block))?;
         self.instrs = 0;
         Ok(())
     }

@@ -134,7 +134,15 @@ pub fn term<'m, 'a>(
             Ok(Terminator::Branch(test, one, other))
         }
         RawTerm::Switch(width, value, other, written) => {
-            switch(alloc, context, here, *width, value, other, written.as_slice())
+            switch(
+                alloc,
+                context,
+                here,
+                *width,
+                value,
+                other,
+                written.as_slice(),
+            )
         }
         RawTerm::Unreachable => Ok(Terminator::Unreachable),
     }

@@ -8,7 +8,7 @@ ghost use Rattle.ir_types.specs.declared.name.Name.TheVariants.{Text};
 ghost use Rattle.ir_check.specs.Answers.{IsAnswer};
 
 use crate::definitions::Definitions;
-use crate::error::{CheckError, refuse_if};
+use crate::error::{CheckError, broken, refuse_if};
 use crate::literals::{is_in_range, residue};
 use crate::meanings::{
     block_meaning, function_meaning, is_across, is_entry, is_no_block, is_other_value,
@@ -16,7 +16,7 @@ use crate::meanings::{
 };
 use crate::types::{is_same_type, is_same_width, is_void};
 use ir_types::name::{Name, Spelling};
-use ir_types::rules::{Here, Meaning, Problem, Rule};
+use ir_types::rules::{Here, Meaning, Rule};
 use ir_types::span::At;
 use ir_types::syntax::{Operand, Variable};
 use ir_types::tree::{Address, RawFunction, RawParam, RawValue, Ty};
@@ -102,10 +102,7 @@ impl<'m, 'a> Context<'m, 'a> {
             }
             RawValue::Wide => {
                 refuse_if(differs, Rule::BadType, value.span)?;
-                Err(CheckError::Broken(Problem {
-                    rule: Rule::ConstantRange,
-                    span: value.span,
-                }))
+                Err(broken(Rule::ConstantRange, value.span))
             }
             RawValue::Bool(is_true) => {
                 let other = differs || !is_same_width(width, Width::I1);
@@ -197,12 +194,7 @@ impl<'m, 'a> Context<'m, 'a> {
                 let number = function_meaning(meaning);
                 Ok(Callee { number, params })
             }
-            None => {
-                Err(CheckError::Broken(Problem {
-                    rule: Rule::BadType,
-                    span: name.span,
-                }))
-            }
+            None => { Err(broken(Rule::BadType, name.span)) }
         }
     }
 }

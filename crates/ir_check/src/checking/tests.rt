@@ -42,12 +42,7 @@ fn declaration<'a>(alloc: Global, name: &'a [u8], start: u32) -> RawFunction<'a>
 }
 
 /// `@g = global i8 NUMBER` at 10 and 11, and a declaration.
-fn tree<'a>(
-    alloc: Global,
-    name: &'a [u8],
-    start: u32,
-    number: i128,
-) -> Result<Raw<'a>, AllocError>
+fn tree<'a>(alloc: Global, name: &'a [u8], start: u32, number: i128) -> Result<Raw<'a>, AllocError>
     requires { IsNameText name.now }
     ensures spelled { IfOk result IsSpelledTree }
     ensures few { IfOk result (λ raw. items raw ≤ 2) }
