@@ -1,3 +1,4 @@
+mod Bodies
 mod Distinct
 mod Names
 mod Sorts

@@ -1,6 +1,7 @@
 -- What an instruction without a problem makes: a variable, an instruction with a result, or one without.
-use Rattle.std.proofs.Common.{◌≡◌, ◌+◌, ◌&&◌, ◌||◌, not, ℕ, Bool, true, false, List, [], ◌∷◌, ◌++◌, Option, None, Some, length, is_some, refl, sym, ap, ◌∙◌}
+use Rattle.std.proofs.Common.{◌≡◌, ◌+◌, ◌&&◌, ◌||◌, not, ℕ, Bool, true, false, List, [], ◌∷◌, ◌++◌, Option, None, Some, length, is_some, refl, sym, ap, ◌∙◌, arith}
 use Rattle.std.specs.Prelude.{◌==◌, if◌then◌else◌}
+use Rattle.std.proofs.lemmas.Bool.Decides.{nat_tests}
 use Rattle.mc_num.specs.declared.op.Width.{Width}
 use Rattle.mc_num.specs.declared.op.Width.TheVariants.{I1}
 use Rattle.mc_num.specs.declared.op.Op.TheVariants as op
@@ -47,7 +48,7 @@ pub record MakesVariable (c : Context) (r : Reached) (x : RawInstr) : Type 0 whe
   pub variable : var_of r x x.kind ≡ Some (width, name_of r.before x.result)
   pub instr : instr_of c r x ≡ None
   pub after : after_instr r x ≡ record { before = define r.before x.result (Variable r.variables width); block = r.block; variables = r.variables + 1; instrs = r.instrs }
-  pub first : not (r.block == 0 && r.instrs == 0) ≡ false
+  pub first : r.block + r.instrs ≡ 0
 
 pub record MakesResult (c : Context) (r : Reached) (x : RawInstr) : Type 0 where
   pub width : Width
@@ -77,9 +78,12 @@ neither : (a b : Bool) → (a || b) ≡ false → (a ≡ false) × (b ≡ false)
 neither false b h = (refl, h)
 neither true b h = cc
 
+first_place : (b i : ℕ) → not (b == 0 && i == 0) ≡ false → b + i ≡ 0
+first_place b i h = grind (arith, nat_tests)
+
 pub sort : (c : Context) (r : Reached) (written : Option (At Name)) (word : Span) (k : RawKind) → IsSpelledKind k → instr_problem c r (record { result = written; word = word; kind = k }) ≡ None
     → Sort c r (record { result = written; word = word; kind = k })
-sort c r written word (kind.Alloca w) spelled h = variable (record { width = w; is = refl; variable = refl; instr = refl; after = refl; first = kept rule.LateAlloca word (not (r.block == 0 && r.instrs == 0)) (both_none _ _ h).1 })
+sort c r written word (kind.Alloca w) spelled h = variable (record { width = w; is = refl; variable = refl; instr = refl; after = refl; first = first_place r.block r.instrs (kept rule.LateAlloca word (not (r.block == 0 && r.instrs == 0)) (both_none _ _ h).1) })
 sort c r written word (kind.Load w a) spelled h = result (record { width = w; kind = Load (variable_of c a.item); is_no_alloca = refl; variable = refl; meant = refl; instr = refl; gives = refl; after = refl })
 sort c r written word (kind.Store w v a) spelled h = nothing (record { kind = Store (operand_of c w v.item) (variable_of c a.item); is_no_alloca = refl; variable = refl; meant = refl; instr = refl; gives = refl; after = refl })
 sort c r written word (kind.Bin o w one other) spelled h =
