@@ -1,4 +1,5 @@
 mod Bodies
 mod Distinct
+mod Known
 mod Names
 mod Sorts
