@@ -3,3 +3,4 @@ mod Distinct
 mod Known
 mod Names
 mod Sorts
+mod Uses

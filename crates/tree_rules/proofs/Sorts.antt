@@ -74,7 +74,7 @@ pub data Sort (c : Context) (r : Reached) (x : RawInstr) : Type 0 where
   result : MakesResult c r x → Sort c r x
   nothing : MakesNothing c r x → Sort c r x
 
-neither : (a b : Bool) → (a || b) ≡ false → (a ≡ false) × (b ≡ false)
+pub neither : (a b : Bool) → (a || b) ≡ false → (a ≡ false) × (b ≡ false)
 neither false b h = (refl, h)
 neither true b h = cc
 
