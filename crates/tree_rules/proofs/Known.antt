@@ -119,7 +119,7 @@ stands_at sh ts r s xs more e h = rw e h
 found : (sh : Shape) (b i : ℕ) (ts : List (Option Width)) (w : Option Width) → slice_get sh.blocks b ≡ Some ts → slice_get ts i ≡ Some w → option_and_then (λ ts. slice_get ts i) (slice_get sh.blocks b) ≡ Some w
 found sh b i ts w e f = ap (λ (o : Option (List (Option Width))). option_and_then (λ ts. slice_get ts i) o) e ∙ f
 
-typed_as : (k : RawKind) (w : Option Width) → is_alloca k ≡ false → raw_width k ≡ w → type_of k ≡ w ∷ []
+pub typed_as : (k : RawKind) (w : Option Width) → is_alloca k ≡ false → raw_width k ≡ w → type_of k ≡ w ∷ []
 typed_as k w n e = ap (λ (b : Bool). if b then [] else (raw_width k ∷ [])) n ∙ ap (λ (o : Option Width). o ∷ []) e
 
 no_alloca : (k : RawKind) → is_alloca k ≡ false → alloca_of k ≡ []

@@ -1,5 +1,6 @@
 mod Bodies
 mod Distinct
+mod Fitting
 mod Known
 mod Names
 mod Sorts
