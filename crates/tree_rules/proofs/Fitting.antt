@@ -57,14 +57,14 @@ cast_exists Trunc v w h = grind (arith, nat_tests)
 cast_exists Bitcast v w h = one_width v w h
 
 -- an instruction fits, and gives what is written
-record IsFit (s : Scope) (before : List Instr) (w : Option Width) (k : Kind) : Type 0 where
-  fits : Fits s before k
-  gives : given_by s k ≡ w
+pub record IsFit (s : Scope) (before : List Instr) (w : Option Width) (k : Kind) : Type 0 where
+  pub fits : Fits s before k
+  pub gives : given_by s k ≡ w
 
 load_fits : (s : Scope) (before : List Instr) (w : Width) (v : Variable) → variable_width s v ≡ Some w → IsFit s before (Some w) (Load v)
 load_fits s before w v e = record { fits = ap is_some e; gives = e }
 
-some_holds : {X : Type 0} (P : X → Type 0) (o : Option X) (x : X) → o ≡ Some x → P x → IsSomeAnd o P
+pub some_holds : {X : Type 0} (P : X → Type 0) (o : Option X) (x : X) → o ≡ Some x → P x → IsSomeAnd o P
 some_holds P o x e p = rw e p
 
 store_fits : (s : Scope) (before : List Instr) (w : Width) (o : Operand) (v : Variable) → variable_width s v ≡ Some w → HasWidth s before w o → IsFit s before None (Store o v)
@@ -92,7 +92,7 @@ module _ (c : Context) (globals : List Width) (sh : Shape) (known : IsKnown c gl
         gives = ap (λ (o : Option Signature). option_and_then (λ (g : Signature). g.ret) o) there ∙ (ap width_of f.ret ∙ sym (call_width type callee arguments));
       }
 
-  kind_fits : (r : Reached) (before : List Instr) (named : Bool) (word : Span) (k : RawKind) → IsBehind (scope_with c globals sh) sh (here r) before → kind_problem c r named word k ≡ None
+  pub kind_fits : (r : Reached) (before : List Instr) (named : Bool) (word : Span) (k : RawKind) → IsBehind (scope_with c globals sh) sh (here r) before → kind_problem c r named word k ≡ None
       → IfSome (kind_of c k) (IsFit (scope_with c globals sh) before (raw_width k))
   kind_fits r before named word (kind.Alloca w) behind h = tt
   kind_fits r before named word (kind.Load w a) behind h = load_fits (scope_with c globals sh) before w (variable_of c a.item) (address_fits c globals sh known (here r) w a h)

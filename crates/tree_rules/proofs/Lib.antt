@@ -1,4 +1,6 @@
+mod Blocks
 mod Bodies
+mod Cases
 mod Distinct
 mod Fitting
 mod Known
