@@ -28,7 +28,7 @@ kept r s false h = refl
 pub same : (a b : Name) → same_name a b ≡ true → a ≡ b
 same a b h = search rules
 
-itself : (a : Name) → same_name a a ≡ true
+pub itself : (a : Name) → same_name a a ≡ true
 itself a = search rules
 
 other : (a b : Name) → a ≢ b → same_name a b ≡ false
@@ -38,7 +38,7 @@ other a b d = by (same_name a b) refl
     by true e = absurd (d (same a b e))
     by false e = refl
 
-is_none : {X : Type 0} (r : Option X) → is_some r ≡ false → r ≡ None
+pub is_none : {X : Type 0} (r : Option X) → is_some r ≡ false → r ≡ None
 is_none None h = refl
 is_none (Some x) h = cc
 

@@ -1,9 +1,11 @@
 mod Blocks
 mod Bodies
 mod Cases
+mod Counts
 mod Distinct
 mod Fitting
 mod Known
 mod Names
 mod Sorts
+mod Symbols
 mod Uses
