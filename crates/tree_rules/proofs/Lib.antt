@@ -4,6 +4,7 @@ mod Cases
 mod Counts
 mod Distinct
 mod Fitting
+mod Functions
 mod Known
 mod Names
 mod Sorts
