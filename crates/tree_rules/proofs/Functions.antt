@@ -46,7 +46,7 @@ one_true : (a b : Bool) → (a || b) ≡ true → (a ≡ true) ⊎ (b ≡ true)
 one_true true b h = inl refl
 one_true false b h = inr h
 
-not_false : (b : Bool) → not b ≡ false → b ≡ true
+pub not_false : (b : Bool) → not b ≡ false → b ≡ true
 not_false true h = refl
 not_false false h = cc
 
@@ -87,7 +87,7 @@ putchar_in m = record {
 }
 
 -- a function without blocks, as it is meant
-abbrev declared_function : List ℕ → Ty → List RawParam → Function
+abbrev pub declared_function : List ℕ → Ty → List RawParam → Function
 declared_function name ret params = record { name = name; ret = width_of ret; params = numbered_from 0 params; vars = []; blocks = [] }
 
 one_i32 : (ps : List RawParam) → takes_i32 ps ≡ true → numbered_from 0 ps ≡ (I32, Number 0) ∷ []
@@ -124,14 +124,14 @@ declared_known f h = by (one_true (bytes_eq f.name.item (codes "getchar") && is_
 function_as : (m : Program) (f g : Function) → f ≡ g → IsFunctionIn m g → IsFunctionIn m f
 function_as m f g e h = rw e h
 
-declared_in : (m : Program) (f : RawFunction) → is_known_external f ≡ true → IsFunctionIn m (declared_function f.name.item f.ret f.params)
+pub declared_in : (m : Program) (f : RawFunction) → is_known_external f ≡ true → IsFunctionIn m (declared_function f.name.item f.ret f.params)
 declared_in m f h = by (declared_known f h)
   where
     by : (declared_function f.name.item f.ret f.params ≡ getchar) ⊎ (declared_function f.name.item f.ret f.params ≡ putchar) → IsFunctionIn m (declared_function f.name.item f.ret f.params)
     by (inl e) = function_as m (declared_function f.name.item f.ret f.params) getchar e (getchar_in m)
     by (inr e) = function_as m (declared_function f.name.item f.ret f.params) putchar e (putchar_in m)
 
-declared_within : (name : List ℕ) (ret : Ty) (params : List RawParam) → IsWithinLimits (declared_function name ret params)
+pub declared_within : (name : List ℕ) (ret : Ty) (params : List RawParam) → IsWithinLimits (declared_function name ret params)
 declared_within name ret params = record { instrs = omega arith; blocks = omega arith; slots = omega arith; vars = omega arith }
 
 -- ---- what callers see
@@ -140,7 +140,7 @@ choice_widths : (b : Bool) (ps : List RawParam) → widths (if b then numbered_f
 choice_widths true ps = numbered_widths 0 ps
 choice_widths false ps = params_widths 0 nothing ps
 
-signature_same : (functions : List RawFunction) (symbols : Defined) (f : RawFunction) → signature (function_of functions symbols f) ≡ raw_signature f
+pub signature_same : (functions : List RawFunction) (symbols : Defined) (f : RawFunction) → signature (function_of functions symbols f) ≡ raw_signature f
 signature_same functions symbols f = ap (λ (l : List Width). record { ret = width_of f.ret; params = l }) (choice_widths (is_nil f.blocks) f.params)
 
 signatures_same : (functions : List RawFunction) (symbols : Defined) (fs : List RawFunction) → map signature (map (function_of functions symbols) fs) ≡ map raw_signature fs
@@ -151,7 +151,7 @@ globals_same : (gs : List RawGlobal) → map (λ g. g.width) (map global_of gs) 
 globals_same [] = refl
 globals_same (g ∷ gs) = ap (λ (l : List Width). g.width ∷ l) (globals_same gs)
 
-scope_same : (raw : Raw) (f : RawFunction) → scope (module_of raw) (function_of raw.functions (symbols_of raw) f) ≡ scope_with (context_in raw.functions (symbols_of raw) f) (global_widths raw.globals) (shape_of f)
+pub scope_same : (raw : Raw) (f : RawFunction) → scope (module_of raw) (function_of raw.functions (symbols_of raw) f) ≡ scope_with (context_in raw.functions (symbols_of raw) f) (global_widths raw.globals) (shape_of f)
 scope_same raw f =
     let gs = globals_same raw.globals in
     let fs = signatures_same raw.functions (symbols_of raw) raw.functions in

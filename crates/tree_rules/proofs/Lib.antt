@@ -10,3 +10,4 @@ mod Names
 mod Sorts
 mod Symbols
 mod Uses
+mod Whole
