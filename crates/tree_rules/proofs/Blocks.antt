@@ -1,18 +1,17 @@
 -- The blocks of a function without a problem keep their rules.
-use Rattle.std.proofs.Common.{◌≡◌, ◌<◌, ◌≤◌, ◌+◌, ◌++◌, ℕ, zero, suc, Bool, true, false, List, [], ◌∷◌, Option, None, Some, length, map, take, is_some, append_assoc, append-nil, length-append, refl, sym, ap, ◌∙◌, arith}
+use Rattle.std.proofs.Common.{◌≡◌, ◌<◌, ◌+◌, ◌++◌, ℕ, zero, suc, List, [], ◌∷◌, Option, None, Some, length, map, take, is_some, append_assoc, append-nil, length-append, refl, sym, ap, ◌∙◌, arith}
 use Rattle.std.specs.Prelude.{◌↔◌, All, IfSome, IsSome, slice_get, option_to_list}
 use Rattle.std.proofs.lemmas.List.{map-append}
 use Rattle.std.proofs.lemmas.List.Elements.{All-nil, All-cons, All-head, All-tail}
 use Rattle.mc_num.specs.declared.op.Width.{Width}
 use Rattle.ir_types.specs.declared.name.Name.{Name}
-use Rattle.ir_types.specs.declared.syntax.Kind.{Kind}
 use Rattle.ir_types.specs.declared.syntax.Instr.{Instr}
 use Rattle.ir_types.specs.declared.tree.RawInstr.{RawInstr}
 use Rattle.ir_types.specs.declared.tree.RawBlock.{RawBlock}
 use Rattle.ir_types.specs.Definitions.{name_of}
 use Rattle.ir_types.specs.Limits.{raw_slot_count}
 use Rattle.ir_types.specs.Uses.{Context}
-use Rattle.ir_types.specs.Rules.{Reached, here, after_instr, after_instrs, at_block, at_term, after_block, kind_problem, instr_problem, instrs_problem, block_problem, blocks_problem}
+use Rattle.ir_types.specs.Rules.{Reached, here, after_instr, after_instrs, at_block, at_term, after_block, kind_problem, instrs_problem, block_problem, blocks_problem}
 use Rattle.ir_types.specs.ModuleOf.{kind_of, instr_of, instrs_from, block_of, blocks_from}
 use Rattle.ir_types.specs.WellFormed.{Scope, given_by, Fits, IsNamed, IsBlockIn}
 use Rattle.ir_types.specs.Written.{IsSpelledInstr, IsSpelledBlock}
@@ -22,7 +21,7 @@ use Rattle.tree_rules.proofs.Bodies.{sort_of, block_stays}
 use Rattle.tree_rules.proofs.Known.{Shape, types, type_of, typed_as, Stands, StandsBefore, in_block, before_next}
 use Rattle.tree_rules.proofs.Uses.{scope_with, IsKnown, given, IsBehind}
 use Rattle.tree_rules.proofs.Fitting.{IsFit, kind_fits}
-use Rattle.tree_rules.proofs.Cases.{EndsWell, term_fits}
+use Rattle.tree_rules.proofs.Cases.{term_fits}
 
 -- each instruction fits after those before it, and is named where it gives a result
 unfoldable FitsFrom : Scope → List Instr → List Instr → Type 0
@@ -106,7 +105,7 @@ module _ (c : Context) (globals : List Width) (sh : Shape) (known : IsKnown c gl
   fit_step r x xs before rest end h front (result v) more =
       let i : Instr = record { result = Some (name_of r.before x.result); kind = v.kind } in
       let fit : IsFit (scope_with c globals sh) before (raw_width x.kind) v.kind =
-          if_some (IsFit (scope_with c globals sh) before (raw_width x.kind)) (kind_of c x.kind) v.kind v.meant (kind_fits c globals sh known r before (is_some x.result) x.word x.kind (front_behind r (x ∷ xs) before front) h) in
+      if_some (IsFit (scope_with c globals sh) before (raw_width x.kind)) (kind_of c x.kind) v.kind v.meant (kind_fits c globals sh known r before (is_some x.result) x.word x.kind (front_behind r (x ∷ xs) before front) h) in
       let gives : given_by (scope_with c globals sh) v.kind ≡ Some v.width = fit.gives ∙ v.gives in
       fitted_as (scope_with c globals sh) ts before (option_to_list (instr_of c r x) ++ rest) (i ∷ rest) end (ap (λ (o : Option Instr). option_to_list o ++ rest) v.instr)
       (fitted_more (scope_with c globals sh) ts before i rest end fit.fits (gives_something (given_by (scope_with c globals sh) v.kind) v.width (name_of r.before x.result) gives)
@@ -114,7 +113,7 @@ module _ (c : Context) (globals : List Width) (sh : Shape) (known : IsKnown c gl
   fit_step r x xs before rest end h front (taker v) more =
       let i : Instr = record { result = None; kind = v.kind } in
       let fit : IsFit (scope_with c globals sh) before (raw_width x.kind) v.kind =
-          if_some (IsFit (scope_with c globals sh) before (raw_width x.kind)) (kind_of c x.kind) v.kind v.meant (kind_fits c globals sh known r before (is_some x.result) x.word x.kind (front_behind r (x ∷ xs) before front) h) in
+      if_some (IsFit (scope_with c globals sh) before (raw_width x.kind)) (kind_of c x.kind) v.kind v.meant (kind_fits c globals sh known r before (is_some x.result) x.word x.kind (front_behind r (x ∷ xs) before front) h) in
       let gives : given_by (scope_with c globals sh) v.kind ≡ None = fit.gives ∙ v.gives in
       fitted_as (scope_with c globals sh) ts before (option_to_list (instr_of c r x) ++ rest) (i ∷ rest) end (ap (λ (o : Option Instr). option_to_list o ++ rest) v.instr)
       (fitted_more (scope_with c globals sh) ts before i rest end fit.fits (gives_nothing (given_by (scope_with c globals sh) v.kind) None gives refl)
@@ -144,7 +143,7 @@ module _ (c : Context) (globals : List Width) (sh : Shape) (known : IsKnown c gl
       let fitted = instrs_fit c globals sh known (types b.instrs) (at_block r b) b.instrs [] spelled.instrs inner.0 (record { block = place.block; left = refl; instrs = refl }) in
       let is : List Instr = instrs_from c (at_block r b) b.instrs in
       let found : slice_get sh.blocks (at_term r b).block ≡ Some (map (given (scope_with c globals sh)) is ++ []) =
-          ap (λ (n : ℕ). slice_get sh.blocks n) (block_stays (at_block r b) b.instrs) ∙ (place.block ∙ ap Some (fitted.types ∙ sym (append-nil (map (given (scope_with c globals sh)) is)))) in
+      ap (λ (n : ℕ). slice_get sh.blocks n) (block_stays (at_block r b) b.instrs) ∙ (place.block ∙ ap Some (fitted.types ∙ sym (append-nil (map (given (scope_with c globals sh)) is)))) in
       let behind : IsBehind (scope_with c globals sh) sh (here (at_term r b)) is = record { rest = []; types = found; instrs = fitted.count } in
       let end = term_fits c globals sh known (here (at_term r b)) is b.term_word b.term behind spelled.term few inner.1 in
       record {

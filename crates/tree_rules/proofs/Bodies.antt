@@ -1,25 +1,24 @@
 -- The names that a function without a problem defines are those of the function that it means, in the same order.
-use Rattle.std.proofs.Common.{inl, inr, ◌≡◌, ◌<◌, ◌≤◌, ◌+◌, ◌++◌, ℕ, Bool, true, false, List, [], ◌∷◌, Option, None, Some, length, map, append_assoc, append-nil, refl, sym, ap, ◌∙◌, arith}
-use Rattle.std.specs.Prelude.{◌⊎◌, All, filter_map, flat_map, option_to_list}
+use Rattle.std.proofs.Common.{inl, inr, ◌≡◌, ◌<◌, ◌+◌, ◌++◌, ℕ, List, [], ◌∷◌, Option, None, length, map, append_assoc, append-nil, refl, ap, ◌∙◌, arith}
+use Rattle.std.specs.Prelude.{◌⊎◌, All, filter_map, option_to_list}
 use Rattle.std.proofs.lemmas.List.{map-append}
 use Rattle.std.proofs.lemmas.List.Elements.{All-head, All-tail, filter_map-append}
 use Rattle.mc_num.specs.declared.op.Width.{Width}
-use Rattle.ir_types.specs.declared.span.At.{At}
 use Rattle.ir_types.specs.declared.name.Name.{Name}
 use Rattle.ir_types.specs.declared.rules.Meaning.TheVariants as meaning
 use Rattle.ir_types.specs.declared.syntax.Instr.{Instr}
 use Rattle.ir_types.specs.declared.tree.RawInstr.{RawInstr}
 use Rattle.ir_types.specs.declared.tree.RawBlock.{RawBlock}
 use Rattle.ir_types.specs.declared.tree.RawParam.{RawParam}
-use Rattle.ir_types.specs.Definitions.{Defined, nothing, define, name_of, name_problem}
+use Rattle.ir_types.specs.Definitions.{Defined, define, name_of, name_problem}
 use Rattle.ir_types.specs.Uses.{Context}
 use Rattle.ir_types.specs.Rules.{Reached, after_instr, after_instrs, at_block, at_term, after_block, after_blocks, after_params, instr_problem, instrs_problem, block_problem, blocks_problem, params_problem}
-use Rattle.ir_types.specs.ModuleOf.{var_of, instr_of, vars_from, instrs_from, block_of, blocks_from, variables_from, params_from}
+use Rattle.ir_types.specs.ModuleOf.{var_of, instr_of, vars_from, instrs_from, blocks_from, variables_from, params_from}
 use Rattle.ir_types.specs.WellFormed.{block_names, body_names}
 use Rattle.ir_types.specs.Written.{IsDefinable, IsSpelledInstr, IsSpelledBlock}
 use Rattle.tree_rules.proofs.Distinct.{both_none}
 use Rattle.tree_rules.proofs.Names.{Names, Grown, none_grown, then_grown, same_grown, one_grown}
-use Rattle.tree_rules.proofs.Sorts.{MakesVariable, MakesResult, MakesNothing, Sort, variable, result, nothing as taker, sort}
+use Rattle.tree_rules.proofs.Sorts.{Sort, variable, result, nothing as taker, sort}
 
 abbrev pub label : Width × Name → Name
 label x = x.1

@@ -1,6 +1,6 @@
 -- Terminators without a problem fit: their operands, their blocks and the values of their cases.
-use Rattle.std.proofs.Common.{◌≡◌, ◌<◌, ◌≤◌, ◌+◌, ◌^◌, ◌++◌, ◌||◌, not, ℕ, zero, suc, Bool, true, false, List, [], ◌∷◌, Option, None, Some, length, map, get_or, refl, sym, ap, ◌∙◌, arith}
-use Rattle.std.specs.Prelude.{◌≢◌, ◌==◌, All, AllPairs, IsSomeAnd, option_to_list}
+use Rattle.std.proofs.Common.{◌≡◌, ◌<◌, ◌^◌, ◌++◌, ◌||◌, ℕ, zero, suc, Bool, false, List, [], ◌∷◌, Option, None, Some, length, map, get_or, refl, sym, ap, ◌∙◌, arith}
+use Rattle.std.specs.Prelude.{◌≢◌, ◌==◌, All, AllPairs, option_to_list}
 use Rattle.std.specs.List.{list_any}
 use Rattle.std.proofs.lemmas.Bool.Decides.{nat_tests}
 use Rattle.std.proofs.lemmas.List.Elements.{All-nil, All-cons, All-head, All-tail, All-weaker}
@@ -10,14 +10,11 @@ use Rattle.mc_num.specs.declared.op.Width.TheVariants.{I1}
 use Rattle.ir_types.specs.declared.span.Span.{Span}
 use Rattle.ir_types.specs.declared.rules.Here.{Here}
 use Rattle.ir_types.specs.declared.syntax.Instr.{Instr}
-use Rattle.ir_types.specs.declared.syntax.Operand.{Operand}
 use Rattle.ir_types.specs.declared.syntax.Terminator.{Terminator}
 use Rattle.ir_types.specs.declared.tree.RawCase.{RawCase}
 use Rattle.ir_types.specs.declared.tree.RawTerm.{RawTerm}
 use Rattle.ir_types.specs.declared.tree.RawTerm.TheVariants as term
-use Rattle.ir_types.specs.declared.tree.Ty.{Ty}
 use Rattle.ir_types.specs.declared.tree.Ty.TheVariants.{Int, Void}
-use Rattle.ir_types.specs.Literals.{literal_value}
 use Rattle.ir_types.specs.Limits.{raw_slot_count}
 use Rattle.ir_types.specs.Uses.{Context, is_seen, cases_problem}
 use Rattle.ir_types.specs.Rules.{term_problem}

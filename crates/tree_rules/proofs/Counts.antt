@@ -1,15 +1,13 @@
 -- How much the function that a tree means has, and the widths of its parts.
-use Rattle.std.proofs.Common.{◌≡◌, ◌<◌, ◌≤◌, ◌+◌, ◌^◌, ◌++◌, ◌||◌, not, nat_lt, ℕ, suc, Bool, true, false, List, [], ◌∷◌, Option, None, Some, length, map, cond, length-append, refl, sym, ap, ◌∙◌, arith}
-use Rattle.std.specs.Prelude.{All, sum_by, count_by, option_to_list, if◌then◌else◌}
+use Rattle.std.proofs.Common.{◌≡◌, ◌≤◌, ◌+◌, ◌++◌, not, ℕ, suc, false, List, [], ◌∷◌, Option, None, Some, length, map, cond, length-append, refl, sym, ap, ◌∙◌, arith}
+use Rattle.std.specs.Prelude.{All, sum_by, count_by, option_to_list}
 use Rattle.std.proofs.lemmas.Bool.Decides.{nat_tests}
 use Rattle.std.proofs.lemmas.List.{map-append}
 use Rattle.std.proofs.lemmas.List.Sums.{sum_by-cons, get_or-le-sum_by}
 use Rattle.mc_num.specs.declared.op.Width.{Width}
 use Rattle.ir_types.specs.declared.name.Name.{Name}
-use Rattle.ir_types.specs.declared.name.Name.TheVariants.{Number}
 use Rattle.ir_types.specs.declared.rules.Meaning.TheVariants.{Parameter}
 use Rattle.ir_types.specs.declared.syntax.Block.{Block}
-use Rattle.ir_types.specs.declared.syntax.Instr.{Instr}
 use Rattle.ir_types.specs.declared.syntax.Kind.{Kind}
 use Rattle.ir_types.specs.declared.tree.RawKind.{RawKind}
 use Rattle.ir_types.specs.declared.tree.RawKind.TheVariants as kind
@@ -19,9 +17,9 @@ use Rattle.ir_types.specs.declared.tree.RawParam.{RawParam}
 use Rattle.ir_types.specs.declared.tree.RawFunction.{RawFunction}
 use Rattle.ir_types.specs.declared.tree.RawTerm.{RawTerm}
 use Rattle.ir_types.specs.declared.tree.RawTerm.TheVariants as term
-use Rattle.ir_types.specs.Definitions.{Defined, name_of, define}
+use Rattle.ir_types.specs.Definitions.{Defined, define}
 use Rattle.ir_types.specs.Limits.{is_alloca, raw_slot_count, slot_count, is_above, is_above_limits}
-use Rattle.ir_types.specs.Size.{block_items, function_items}
+use Rattle.ir_types.specs.Size.{block_items}
 use Rattle.ir_types.specs.Uses.{Context}
 use Rattle.ir_types.specs.Rules.{Reached, after_instr, at_block, after_block}
 use Rattle.ir_types.specs.ModuleOf.{var_of, kind_of, instr_with, instr_of, vars_from, instrs_from, case_of, term_of, block_of, blocks_from, variables_from, params_from, numbered_from}
@@ -51,9 +49,14 @@ as_many r x (Some k) = refl
 few_instrs : (c : Context) (r : Reached) (xs : List RawInstr) → length (instrs_from c r xs) ≤ count_by (λ x. not (is_alloca x.kind)) xs
 unfolding instrs_from
 few_instrs c r [] = omega arith
-few_instrs c r (x ∷ xs) = omega (arith,
-    length-append (option_to_list (instr_of c r x)) (instrs_from c (after_instr r x) xs), as_many r x (kind_of c x.kind), one_kind c x.kind, few_instrs c (after_instr r x) xs,
-    sum_by-cons (λ (x : RawInstr). cond (not (is_alloca x.kind)) 1 0) x xs)
+few_instrs c r (x ∷ xs) = omega (
+  arith,
+  length-append (option_to_list (instr_of c r x)) (instrs_from c (after_instr r x) xs),
+  as_many r x (kind_of c x.kind),
+  one_kind c x.kind,
+  few_instrs c (after_instr r x) xs,
+  sum_by-cons (λ (x : RawInstr). cond (not (is_alloca x.kind)) 1 0) x xs,
+)
 
 var_width : (r : Reached) (x : RawInstr) (k : RawKind) → map (λ (v : Width × Name). v.0) (option_to_list (var_of r x k)) ≡ alloca_of k
 var_width r x (kind.Alloca w) = refl
@@ -103,9 +106,13 @@ raw_vars bs = sum_by (λ b. count_by (λ x. is_alloca x.kind) b.instrs) bs
 pub instrs_count : (c : Context) (r : Reached) (bs : List RawBlock) → sum_by (λ b. length b.instrs) (blocks_from c r bs) ≤ raw_instrs bs
 unfolding blocks_from
 instrs_count c r [] = omega arith
-instrs_count c r (b ∷ bs) = omega (arith,
-    sum_by-cons (λ (b : Block). length b.instrs) (block_of c r b) (blocks_from c (after_block r b) bs), few_instrs c (at_block r b) b.instrs, instrs_count c (after_block r b) bs,
-    sum_by-cons (λ (b : RawBlock). count_by (λ x. not (is_alloca x.kind)) b.instrs) b bs)
+instrs_count c r (b ∷ bs) = omega (
+  arith,
+  sum_by-cons (λ (b : Block). length b.instrs) (block_of c r b) (blocks_from c (after_block r b) bs),
+  few_instrs c (at_block r b) b.instrs,
+  instrs_count c (after_block r b) bs,
+  sum_by-cons (λ (b : RawBlock). count_by (λ x. not (is_alloca x.kind)) b.instrs) b bs,
+)
 
 pub blocks_count : (c : Context) (r : Reached) (bs : List RawBlock) → length (blocks_from c r bs) ≡ length bs
 unfolding blocks_from
@@ -123,9 +130,13 @@ one_slots c term.Unreachable = refl
 pub slots_count : (c : Context) (r : Reached) (bs : List RawBlock) → sum_by (λ b. slot_count b.term) (blocks_from c r bs) ≡ raw_slots bs
 unfolding blocks_from
 slots_count c r [] = refl
-slots_count c r (b ∷ bs) = omega (arith,
-    sum_by-cons (λ (b : Block). slot_count b.term) (block_of c r b) (blocks_from c (after_block r b) bs), one_slots c b.term, slots_count c (after_block r b) bs,
-    sum_by-cons (λ (b : RawBlock). raw_slot_count b.term) b bs)
+slots_count c r (b ∷ bs) = omega (
+  arith,
+  sum_by-cons (λ (b : Block). slot_count b.term) (block_of c r b) (blocks_from c (after_block r b) bs),
+  one_slots c b.term,
+  slots_count c (after_block r b) bs,
+  sum_by-cons (λ (b : RawBlock). raw_slot_count b.term) b bs,
+)
 
 pub variables_widths : (r : Reached) (bs : List RawBlock) → widths (variables_from r bs) ≡ all_allocas bs
 unfolding variables_from all_allocas

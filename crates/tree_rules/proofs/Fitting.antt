@@ -1,13 +1,11 @@
 -- Instructions and terminators without a problem fit, and so do the blocks that they stand in.
-use Rattle.std.proofs.Common.{◌≡◌, ◌<◌, ◌≤◌, ◌+◌, ◌^◌, ◌++◌, ◌&&◌, ◌||◌, not, nat_lt, ℕ, zero, suc, Bool, true, false, List, [], ◌∷◌, Option, None, Some, length, map, take, get_or, is_some, append_assoc, append-nil, length-append, refl, sym, ap, ◌∙◌, arith}
-use Rattle.std.specs.Prelude.{◌≢◌, ◌==◌, ◌↔◌, All, AllPairs, IfSome, IsSome, IsSomeAnd, slice_get, option_and_then, option_map, option_to_list, if◌then◌else◌}
+use Rattle.std.proofs.Common.{◌≡◌, not, ℕ, Bool, false, List, [], Option, None, Some, length, map, is_some, refl, sym, ap, ◌∙◌, arith}
+use Rattle.std.specs.Prelude.{IfSome, IsSomeAnd, slice_get, option_and_then, option_map}
 use Rattle.std.specs.Option.{option_map_or}
-use Rattle.std.specs.List.{AllZip, list_any}
+use Rattle.std.specs.List.{AllZip}
 use Rattle.std.proofs.lemmas.Bool.Decides.{nat_tests}
-use Rattle.std.proofs.lemmas.List.{map-append, map_push}
-use Rattle.std.proofs.lemmas.List.Elements.{All-nil, All-cons, All-head, All-tail, All-weaker}
 use Rattle.std.proofs.lemmas.Option.{slice_get-map}
-use Rattle.mc_num.specs.Op.{bits, IsWellFormedOp}
+use Rattle.mc_num.specs.Op.{IsWellFormedOp}
 use Rattle.mc_num.specs.declared.op.Cast.{Cast}
 use Rattle.mc_num.specs.declared.op.Cast.TheVariants.{Zext, Sext, Trunc, Bitcast}
 use Rattle.mc_num.specs.declared.op.Op.TheVariants as op
@@ -15,38 +13,28 @@ use Rattle.mc_num.specs.declared.op.Width.{Width}
 use Rattle.mc_num.specs.declared.op.Width.TheVariants.{I1}
 use Rattle.ir_types.specs.declared.span.At.{At}
 use Rattle.ir_types.specs.declared.span.Span.{Span}
-use Rattle.ir_types.specs.declared.name.Name.{Name}
 use Rattle.ir_types.specs.declared.name.Name.TheVariants.{Text}
 use Rattle.ir_types.specs.declared.rules.Here.{Here}
 use Rattle.ir_types.specs.declared.syntax.Kind.{Kind}
-use Rattle.ir_types.specs.declared.syntax.Kind.TheVariants.{Load, Store, Compute, Call}
+use Rattle.ir_types.specs.declared.syntax.Kind.TheVariants.{Load, Store, Call}
 use Rattle.ir_types.specs.declared.syntax.Instr.{Instr}
 use Rattle.ir_types.specs.declared.syntax.Operand.{Operand}
 use Rattle.ir_types.specs.declared.syntax.Variable.{Variable}
-use Rattle.ir_types.specs.declared.tree.RawCase.{RawCase}
 use Rattle.ir_types.specs.declared.tree.RawFunction.{RawFunction}
 use Rattle.ir_types.specs.declared.tree.RawKind.{RawKind}
 use Rattle.ir_types.specs.declared.tree.RawKind.TheVariants as kind
-use Rattle.ir_types.specs.declared.tree.RawInstr.{RawInstr}
 use Rattle.ir_types.specs.declared.tree.RawArg.{RawArg}
-use Rattle.ir_types.specs.declared.tree.RawTerm.{RawTerm}
-use Rattle.ir_types.specs.declared.tree.RawTerm.TheVariants as term
-use Rattle.ir_types.specs.declared.tree.RawBlock.{RawBlock}
 use Rattle.ir_types.specs.declared.tree.Ty.{Ty}
 use Rattle.ir_types.specs.declared.tree.Ty.TheVariants.{Int, Void, Ptr}
-use Rattle.ir_types.specs.Definitions.{Defined, meaning_of}
-use Rattle.ir_types.specs.Literals.{literal_value}
-use Rattle.ir_types.specs.Limits.{raw_slot_count}
-use Rattle.ir_types.specs.Uses.{Context, same_width, casts, is_seen, value_problem, address_problem, cases_problem, callee_of, params_of, arguments_problem}
-use Rattle.ir_types.specs.Rules.{Reached, here, after_instr, after_instrs, at_block, at_term, after_block, kind_problem, instr_problem, instrs_problem, term_problem, block_problem, blocks_problem}
-use Rattle.ir_types.specs.ModuleOf.{operand_of, variable_of, argument_of, function_number, kind_of, instr_of, instrs_from, case_of, term_of, block_of, blocks_from, width_of}
-use Rattle.ir_types.specs.WellFormed.{Signature, Scope, variable_width, given_by, HasWidth, Fits, IsNamed, AreCases, Ends, targets, IsBlockIn}
-use Rattle.ir_types.specs.Written.{IsSpelledKind, IsSpelledInstr, IsSpelledCase, IsSpelledTerm, IsSpelledBlock}
-use Rattle.tree_rules.proofs.Distinct.{both_none, kept, equal}
-use Rattle.tree_rules.proofs.Sorts.{raw_width, neither, Sort, variable, result, nothing as taker}
-use Rattle.tree_rules.proofs.Bodies.{sort_of, block_stays}
-use Rattle.tree_rules.proofs.Known.{Shape, types, type_of, typed_as, block_types, Stands, StandsBefore, in_block, before_next}
-use Rattle.tree_rules.proofs.Uses.{holds, one_width, one_type, raw_signature, scope_with, IsKnown, given, IsBehind, IsCounted, literal_counted, value_fits, address_fits, label_fits, arguments_fit, IsCallee, callee_fits}
+use Rattle.ir_types.specs.Definitions.{meaning_of}
+use Rattle.ir_types.specs.Uses.{Context, casts, params_of, arguments_problem}
+use Rattle.ir_types.specs.Rules.{Reached, here, kind_problem}
+use Rattle.ir_types.specs.ModuleOf.{operand_of, variable_of, argument_of, function_number, kind_of, width_of}
+use Rattle.ir_types.specs.WellFormed.{Signature, Scope, variable_width, given_by, HasWidth, Fits}
+use Rattle.tree_rules.proofs.Distinct.{both_none, kept}
+use Rattle.tree_rules.proofs.Sorts.{raw_width}
+use Rattle.tree_rules.proofs.Known.{Shape}
+use Rattle.tree_rules.proofs.Uses.{one_width, raw_signature, scope_with, IsKnown, IsBehind, value_fits, address_fits, arguments_fit, IsCallee, callee_fits}
 
 -- ---- instructions
 

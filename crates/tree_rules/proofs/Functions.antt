@@ -1,15 +1,12 @@
 -- A function of a tree without a problem means one that keeps the rules.
-use Rattle.std.proofs.Common.{inl, inr, ◌≡◌, ◌<◌, ◌≤◌, ◌+◌, ◌++◌, ◌&&◌, ◌||◌, not, ℕ, Bool, true, false, List, [], ◌∷◌, Option, None, Some, length, map, refl, sym, ap, ◌∙◌, rules, arith}
-use Rattle.std.specs.Prelude.{◌≢◌, ◌⊎◌, All, AllPairs, codes, sum_by, if◌then◌else◌}
+use Rattle.std.proofs.Common.{inl, inr, ◌≡◌, ◌&&◌, ◌||◌, not, ℕ, Bool, true, false, List, [], ◌∷◌, Some, length, map, refl, sym, ap, ◌∙◌, rules, arith}
+use Rattle.std.specs.Prelude.{◌⊎◌, codes, if◌then◌else◌}
 use Rattle.std.specs.Str.{bytes_eq}
-use Rattle.std.proofs.lemmas.List.Elements.{All-same, All-nil, All-cons, All-head, All-tail, All-weaker}
+use Rattle.std.proofs.lemmas.List.Elements.{All-nil, All-cons}
 use Rattle.mc_num.specs.declared.op.Width.{Width}
 use Rattle.mc_num.specs.declared.op.Width.TheVariants.{I32}
-use Rattle.ir_types.specs.declared.span.At.{At}
-use Rattle.ir_types.specs.declared.name.Name.{Name}
 use Rattle.ir_types.specs.declared.name.Name.TheVariants.{Number}
 use Rattle.ir_types.specs.declared.syntax.Function.{Function}
-use Rattle.ir_types.specs.declared.tree.RawBlock.{RawBlock}
 use Rattle.ir_types.specs.declared.tree.RawParam.{RawParam}
 use Rattle.ir_types.specs.declared.tree.RawFunction.{RawFunction}
 use Rattle.ir_types.specs.declared.tree.RawGlobal.{RawGlobal}
@@ -17,23 +14,17 @@ use Rattle.ir_types.specs.declared.tree.Raw.{Raw}
 use Rattle.ir_types.specs.declared.tree.Ty.{Ty}
 use Rattle.ir_types.specs.declared.tree.Ty.TheVariants.{Int}
 use Rattle.ir_types.specs.Definitions.{Defined, nothing}
-use Rattle.ir_types.specs.Limits.{is_above_limits, IsWithinLimits}
-use Rattle.ir_types.specs.ModuleOf.{variables_from, blocks_from, params_from, numbered_from, width_of, function_of, global_of, module_of}
-use Rattle.ir_types.specs.Names.{IsSpellable, spelled}
+use Rattle.ir_types.specs.Limits.{IsWithinLimits}
+use Rattle.ir_types.specs.ModuleOf.{blocks_from, params_from, numbered_from, width_of, function_of, global_of, module_of}
+use Rattle.ir_types.specs.Names.{IsSpellable}
 use Rattle.ir_types.specs.Program.{Program}
-use Rattle.ir_types.specs.Rules.{Reached, at_body, after_params, locals_of, is_nil, takes_i32, is_known_external, symbols_of, context_in, body_problem}
-use Rattle.ir_types.specs.Size.{function_items}
-use Rattle.ir_types.specs.Uses.{Context, same_width, same_type}
-use Rattle.ir_types.specs.WellFormed.{Signature, Scope, scope, signature, widths, names, body_names, getchar, putchar, IsBlockIn, IsFunctionIn}
-use Rattle.ir_types.specs.Written.{IsDefinable, IsSpelledFunction}
-use Rattle.tree_rules.proofs.Distinct.{both_none}
-use Rattle.tree_rules.proofs.Names.{key, IsPlain, plain_spellable, plain_spelled, counts_from, Names, nothing_named, Grown, then_grown}
-use Rattle.tree_rules.proofs.Bodies.{label, names_in, params_grown, body_grown}
-use Rattle.tree_rules.proofs.Known.{Shape, shape_of, AllKnown, param_widths, stands_first, locals_known}
-use Rattle.tree_rules.proofs.Uses.{one_type, one_width, raw_signature, scope_with, KnowsSymbol, IsKnown}
-use Rattle.tree_rules.proofs.Blocks.{HasFewSlots, blocks_fit}
+use Rattle.ir_types.specs.Rules.{at_body, is_nil, takes_i32, is_known_external, symbols_of, context_in}
+use Rattle.ir_types.specs.Uses.{same_width, same_type}
+use Rattle.ir_types.specs.WellFormed.{scope, signature, widths, getchar, putchar, IsBlockIn, IsFunctionIn}
+use Rattle.tree_rules.proofs.Known.{shape_of, param_widths}
+use Rattle.tree_rules.proofs.Uses.{one_type, one_width, raw_signature, scope_with}
 use Rattle.tree_rules.proofs.Cases.{length_same}
-use Rattle.tree_rules.proofs.Counts.{instrs_count, blocks_count, slots_count, variables_widths, variables_count, params_widths, numbered_widths, HasFew, within_limits, few_slots, few_names}
+use Rattle.tree_rules.proofs.Counts.{blocks_count, variables_widths, params_widths, numbered_widths}
 use Rattle.tree_rules.proofs.Symbols.{global_widths}
 
 -- ---- tests as facts
@@ -106,8 +97,10 @@ declared_known f h = by (one_true (bytes_eq f.name.item (codes "getchar") && is_
   where
     parts : (same_type f.ret (Int I32) ≡ true) × (((bytes_eq f.name.item (codes "getchar") && is_nil f.params) || (bytes_eq f.name.item (codes "putchar") && takes_i32 f.params)) ≡ true)
     parts = both_true (same_type f.ret (Int I32)) ((bytes_eq f.name.item (codes "getchar") && is_nil f.params) || (bytes_eq f.name.item (codes "putchar") && takes_i32 f.params)) h
+
     ret : width_of f.ret ≡ Some I32
     ret = ap width_of (one_type f.ret (Int I32) (not_true (same_type f.ret (Int I32)) parts.0))
+
     by : ((bytes_eq f.name.item (codes "getchar") && is_nil f.params) ≡ true) ⊎ ((bytes_eq f.name.item (codes "putchar") && takes_i32 f.params) ≡ true)
         → (declared_function f.name.item f.ret f.params ≡ getchar) ⊎ (declared_function f.name.item f.ret f.params ≡ putchar)
     by (inl e) =
@@ -158,5 +151,5 @@ scope_same raw f =
     let own = signature_same raw.functions (symbols_of raw) f in
     let vs = variables_widths (at_body f) f.blocks in
     let bs : length (blocks_from (context_in raw.functions (symbols_of raw) f) (at_body f) f.blocks) ≡ length (shape_of f).blocks =
-        blocks_count (context_in raw.functions (symbols_of raw) f) (at_body f) f.blocks ∙ sym (length_same _ f.blocks) in
+    blocks_count (context_in raw.functions (symbols_of raw) f) (at_body f) f.blocks ∙ sym (length_same _ f.blocks) in
     λ i. record { globals = gs i; functions = fs i; own = own i; vars = vs i; blocks = bs i }

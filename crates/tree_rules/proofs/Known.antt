@@ -1,5 +1,5 @@
 -- What the names of a function without a problem mean among its parameters, blocks, results and variables.
-use Rattle.std.proofs.Common.{inl, inr, ◌≡◌, ◌<◌, ◌≤◌, ◌+◌, ◌++◌, ℕ, zero, suc, Bool, true, false, List, [], ◌∷◌, Option, None, Some, length, map, drop, add-one, is_some, append-nil, refl, sym, ap, ◌∙◌, arith}
+use Rattle.std.proofs.Common.{◌≡◌, ◌<◌, ◌+◌, ◌++◌, ℕ, zero, suc, Bool, true, false, List, [], ◌∷◌, Option, None, Some, length, map, drop, add-one, is_some, refl, ap, ◌∙◌}
 use Rattle.std.specs.Prelude.{All, IfSome, slice_get, option_and_then, if◌then◌else◌}
 use Rattle.std.specs.Map.{lookup}
 use Rattle.std.proofs.lemmas.List.Elements.{All-nil, All-head, All-tail, All-push, All-contains}
@@ -25,7 +25,7 @@ use Rattle.ir_types.specs.ModuleOf.{width_of}
 use Rattle.ir_types.specs.Written.{IsSpelledInstr, IsSpelledBlock}
 use Rattle.tree_rules.proofs.Distinct.{both_none, same}
 use Rattle.tree_rules.proofs.Sorts.{raw_width, Sort, variable, result, nothing as taker}
-use Rattle.tree_rules.proofs.Bodies.{sort_of, next_number, block_stays}
+use Rattle.tree_rules.proofs.Bodies.{sort_of, next_number}
 
 -- ---- lists
 

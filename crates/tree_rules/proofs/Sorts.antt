@@ -1,5 +1,5 @@
 -- What an instruction without a problem makes: a variable, an instruction with a result, or one without.
-use Rattle.std.proofs.Common.{◌≡◌, ◌+◌, ◌&&◌, ◌||◌, not, ℕ, Bool, true, false, List, [], ◌∷◌, ◌++◌, Option, None, Some, length, is_some, refl, sym, ap, ◌∙◌, arith}
+use Rattle.std.proofs.Common.{◌≡◌, ◌+◌, ◌&&◌, ◌||◌, not, ℕ, Bool, true, false, [], ◌∷◌, Option, None, Some, length, is_some, refl, ap, arith}
 use Rattle.std.specs.Prelude.{◌==◌, if◌then◌else◌}
 use Rattle.std.proofs.lemmas.Bool.Decides.{nat_tests}
 use Rattle.mc_num.specs.declared.op.Width.{Width}
@@ -8,18 +8,15 @@ use Rattle.mc_num.specs.declared.op.Op.TheVariants as op
 use Rattle.ir_types.specs.declared.span.At.{At}
 use Rattle.ir_types.specs.declared.span.Span.{Span}
 use Rattle.ir_types.specs.declared.name.Name.{Name}
-use Rattle.ir_types.specs.declared.rules.Meaning.{Meaning}
 use Rattle.ir_types.specs.declared.rules.Meaning.TheVariants.{Variable, Register}
 use Rattle.ir_types.specs.declared.rules.Rule.TheVariants as rule
 use Rattle.ir_types.specs.declared.syntax.Kind.{Kind}
 use Rattle.ir_types.specs.declared.syntax.Kind.TheVariants.{Load, Store, Compute, Call}
-use Rattle.ir_types.specs.declared.syntax.Instr.{Instr}
-use Rattle.ir_types.specs.declared.tree.RawArg.{RawArg}
 use Rattle.ir_types.specs.declared.tree.RawKind.{RawKind}
 use Rattle.ir_types.specs.declared.tree.RawKind.TheVariants as kind
 use Rattle.ir_types.specs.declared.tree.RawInstr.{RawInstr}
 use Rattle.ir_types.specs.declared.tree.Ty.TheVariants.{Int, Void, Ptr}
-use Rattle.ir_types.specs.Definitions.{Defined, define, define_some}
+use Rattle.ir_types.specs.Definitions.{define, define_some}
 use Rattle.ir_types.specs.Limits.{is_alloca}
 use Rattle.ir_types.specs.Uses.{Context, is_other_callee, callee_of}
 use Rattle.ir_types.specs.Rules.{Reached, register, after_instr, instr_problem}

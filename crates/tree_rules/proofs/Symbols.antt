@@ -1,5 +1,5 @@
 -- The globals and functions of a tree without a problem, each at its number: their names mean them.
-use Rattle.std.proofs.Common.{◌≡◌, ◌<◌, ◌≤◌, ◌+◌, ◌++◌, ◌&&◌, not, ℕ, zero, suc, Bool, true, false, List, [], ◌∷◌, Option, None, Some, length, map, cond, get_or, drop, is_some, refl, sym, ap, ◌∙◌, rules, arith}
+use Rattle.std.proofs.Common.{◌≡◌, ◌<◌, ◌+◌, ◌++◌, ◌&&◌, not, ℕ, zero, suc, Bool, true, false, List, [], ◌∷◌, Option, None, Some, length, map, cond, get_or, drop, is_some, refl, sym, ap, ◌∙◌, arith}
 use Rattle.std.specs.Prelude.{◌≢◌, All, AllPairs, slice_get, if◌then◌else◌}
 use Rattle.std.specs.Map.{lookup}
 use Rattle.std.proofs.lemmas.List.Elements.{All-nil, All-cons, All-head, All-tail}
@@ -11,11 +11,11 @@ use Rattle.ir_types.specs.declared.rules.Meaning.{Meaning}
 use Rattle.ir_types.specs.declared.rules.Meaning.TheVariants as meaning
 use Rattle.ir_types.specs.declared.tree.RawFunction.{RawFunction}
 use Rattle.ir_types.specs.declared.tree.RawGlobal.{RawGlobal}
-use Rattle.ir_types.specs.Definitions.{Defined, nothing, same_name, name_of, with_meaning, define, meaning_of, name_problem, symbol_name}
+use Rattle.ir_types.specs.Definitions.{Defined, same_name, name_of, define, meaning_of, name_problem, symbol_name}
 use Rattle.ir_types.specs.Limits.{is_above_limits}
 use Rattle.ir_types.specs.Order.{Item, Global, Function, starts_before, up_to, merged}
-use Rattle.ir_types.specs.Uses.{Context, value_problem}
-use Rattle.ir_types.specs.Rules.{is_nil, is_known_external, Passed, at_top, after_item, after_items, context_in, no_context, nowhere, body_problem, item_problem, items_problem}
+use Rattle.ir_types.specs.Uses.{value_problem}
+use Rattle.ir_types.specs.Rules.{is_nil, is_known_external, Passed, at_top, after_item, after_items, context_in, no_context, nowhere, body_problem, items_problem}
 use Rattle.tree_rules.proofs.Distinct.{both_none, kept, itself, is_none}
 use Rattle.tree_rules.proofs.Known.{AllKnown, define_known, at_drop, drop_next}
 use Rattle.tree_rules.proofs.Uses.{KnowsSymbol}
@@ -52,7 +52,7 @@ unfolding EachFrom
 each_all P A Q n [] f a h = All-nil Q
 each_all P A Q n (x ∷ xs) f a h = All-cons Q x xs (f n x (All-head A x xs a) h.0) (each_all P A Q (n + 1) xs f (All-tail A x xs a) h.1)
 
--- names that a map numbers from 0 on all differ
+-- things that a map numbers from 0 on all differ
 pub numbered_differ : {X : Type 0} (number : X → ℕ) (xs : List X) → EachFrom (λ n x. number x ≡ n) 0 xs → AllPairs (λ a b. a ≢ b) xs
 numbered_differ number xs h i j d l k e =
     let one : number (get_or xs i d) ≡ i = each_at (λ n x. number x ≡ n) 0 xs h i i d (omega arith) (omega arith) in
@@ -179,24 +179,28 @@ module _ (functions : List RawFunction) (symbols : Defined) where
   each_fine p [] h = tt
   each_fine p (Global g ∷ xs) h =
       let parts = both_none _ _ h in
-      let own = both_none _ _ parts.0 in
-      (record {
-        meant = items_keep (after_item p (Global g)) xs (Text g.name.item) (meaning.Global p.globals g.width)
-            (define_finds p.before (record { item = Text g.name.item; span = g.name.span }) (meaning.Global p.globals g.width) own.0);
-        value = own.1;
-      }, each_fine (after_item p (Global g)) xs parts.1)
+      let own = both_none _ _ parts.0 in (
+        record {
+          meant = items_keep (after_item p (Global g)) xs (Text g.name.item) (meaning.Global p.globals g.width)
+              (define_finds p.before (record { item = Text g.name.item; span = g.name.span }) (meaning.Global p.globals g.width) own.0);
+          value = own.1;
+        },
+        each_fine (after_item p (Global g)) xs parts.1,
+      )
   each_fine p (Function f ∷ xs) h =
       let parts = both_none _ _ h in
       let own = both_none _ _ parts.0 in
       let inner = both_none _ _ own.1 in
-      let last = both_none _ _ inner.1 in
-      (record {
-        meant = items_keep (after_item p (Function f)) xs (Text f.name.item) (meaning.Function p.functions)
-            (define_finds p.before (record { item = Text f.name.item; span = f.name.span }) (meaning.Function p.functions) own.0);
-        external = kept _ _ _ inner.0;
-        within = kept _ _ _ last.0;
-        body = last.1;
-      }, each_fine (after_item p (Function f)) xs parts.1)
+      let last = both_none _ _ inner.1 in (
+        record {
+          meant = items_keep (after_item p (Function f)) xs (Text f.name.item) (meaning.Function p.functions)
+              (define_finds p.before (record { item = Text f.name.item; span = f.name.span }) (meaning.Function p.functions) own.0);
+          external = kept _ _ _ inner.0;
+          within = kept _ _ _ last.0;
+          body = last.1;
+        },
+        each_fine (after_item p (Function f)) xs parts.1,
+      )
 
 -- ---- what the names of a tree mean
 

@@ -1,7 +1,6 @@
 -- Values, addresses, labels and callees without a problem fit their places.
-use Rattle.std.proofs.Common.{◌≡◌, ◌<◌, ◌≤◌, ◌+◌, ◌^◌, ◌++◌, ◌&&◌, ◌||◌, not, nat_lt, nat_le, ℕ, ℤ, pos, negsuc, zero, suc, Bool, true, false, List, [], ◌∷◌, Option, None, Some, length, map, is_some, refl, sym, ap, ◌∙◌, arith}
-use Rattle.std.specs.Prelude.{◌==◌, All, IfSome, slice_get, option_and_then, is_none, if◌then◌else◌}
-use Rattle.std.specs.Option.{option_map_or}
+use Rattle.std.proofs.Common.{◌≡◌, ◌<◌, ◌^◌, ◌++◌, ◌&&◌, ◌||◌, not, nat_le, ℕ, ℤ, pos, negsuc, zero, suc, Bool, true, false, List, [], ◌∷◌, Option, None, Some, length, map, refl, sym, ap, ◌∙◌, arith}
+use Rattle.std.specs.Prelude.{◌==◌, IfSome, slice_get, option_and_then, if◌then◌else◌}
 use Rattle.std.specs.List.{AllZip}
 use Rattle.std.proofs.lemmas.Bool.Decides.{nat_tests}
 use Rattle.mc_num.specs.Op.{bits}
@@ -25,11 +24,10 @@ use Rattle.ir_types.specs.declared.tree.RawParam.{RawParam}
 use Rattle.ir_types.specs.declared.tree.RawFunction.{RawFunction}
 use Rattle.ir_types.specs.declared.tree.Ty.{Ty}
 use Rattle.ir_types.specs.declared.tree.Ty.TheVariants.{Int, Void, Ptr}
-use Rattle.ir_types.specs.Problems.{broken}
-use Rattle.ir_types.specs.Definitions.{Defined, meaning_of}
+use Rattle.ir_types.specs.Definitions.{meaning_of}
 use Rattle.ir_types.specs.Literals.{residue, literal_value}
-use Rattle.ir_types.specs.Uses.{Context, same_width, same_type, is_undefined, is_across, is_other_value, is_other_variable, is_no_block, is_entry, item_problem, value_problem, address_meaning, address_problem, label_problem, function_named, callee_of, is_void, is_other_callee, callee_problem, escape_problem, typed_problem, argument_problem, arguments_problem, params_of}
-use Rattle.ir_types.specs.ModuleOf.{constant_of, operand_meaning, operand_of, typed_operand, argument_of, variable_meaning, variable_of, block_meaning, target_of, function_meaning, function_number, width_of}
+use Rattle.ir_types.specs.Uses.{Context, same_width, same_type, is_undefined, is_across, is_other_value, is_other_variable, is_no_block, is_entry, item_problem, value_problem, address_problem, label_problem, function_named, callee_of, is_void, is_other_callee, callee_problem, escape_problem, typed_problem, arguments_problem}
+use Rattle.ir_types.specs.ModuleOf.{constant_of, operand_meaning, operand_of, typed_operand, argument_of, variable_meaning, variable_of, block_meaning, target_of, function_meaning, width_of}
 use Rattle.ir_types.specs.WellFormed.{Signature, Scope, variable_width, given_by, HasWidth}
 use Rattle.ir_types.specs.Written.{IsLiteral}
 use Rattle.tree_rules.proofs.Distinct.{both_none, kept, equal}

@@ -1,7 +1,7 @@
 -- A tree without a problem means a module that keeps the rules.
-use Rattle.std.proofs.Common.{inl, inr, ◌≡◌, ◌<◌, ◌≤◌, ◌+◌, ◌++◌, ◌&&◌, not, ℕ, Bool, true, false, List, [], ◌∷◌, Option, None, Some, length, map, refl, sym, ap, ◌∙◌, rules, arith}
+use Rattle.std.proofs.Common.{◌≡◌, ◌≤◌, ◌+◌, ◌++◌, not, ℕ, false, List, [], ◌∷◌, Option, None, Some, length, map, refl, sym, ap, ◌∙◌, arith}
 use Rattle.std.specs.Prelude.{◌≢◌, All, AllPairs, sum_by}
-use Rattle.std.proofs.lemmas.List.Elements.{All-same, All-nil, All-cons, All-head, All-tail, All-weaker, All-map}
+use Rattle.std.proofs.lemmas.List.Elements.{All-same, All-head, All-tail, All-weaker, All-map}
 use Rattle.std.proofs.lemmas.List.Sums.{get_or-le-sum_by}
 use Rattle.mc_num.specs.declared.op.Width.{Width}
 use Rattle.ir_types.specs.declared.span.At.{At}
@@ -23,18 +23,18 @@ use Rattle.ir_types.specs.ModuleOf.{variables_from, blocks_from, params_from, fu
 use Rattle.ir_types.specs.Names.{IsSpellable, spelled}
 use Rattle.ir_types.specs.Order.{merged}
 use Rattle.ir_types.specs.Program.{Program}
-use Rattle.ir_types.specs.Rules.{Reached, at_body, after_params, locals_of, is_nil, is_known_external, at_top, symbols_of, context_in, no_context, nowhere, body_problem, tree_problem}
+use Rattle.ir_types.specs.Rules.{at_body, after_params, locals_of, is_known_external, at_top, symbols_of, context_in, no_context, nowhere, body_problem, tree_problem}
 use Rattle.ir_types.specs.Size.{function_items, items}
 use Rattle.ir_types.specs.Uses.{Context}
-use Rattle.ir_types.specs.WellFormed.{Scope, scope, names, body_names, IsBlockIn, IsFunctionIn, IsGlobal, IsWellFormed}
+use Rattle.ir_types.specs.WellFormed.{Scope, scope, names, body_names, IsBlockIn, IsFunctionIn, IsGlobal}
 use Rattle.ir_types.specs.Written.{IsDefinable, IsSpelledBlock, IsSpelledFunction, IsSpelledGlobal, IsSpelledTree}
 use Rattle.tree_rules.specs.Admitted.{IsAdmitted}
 use Rattle.tree_rules.proofs.Distinct.{both_none}
-use Rattle.tree_rules.proofs.Names.{key, IsPlain, plain_spellable, plain_spelled, counts_from, Names, nothing_named, Grown, then_grown}
+use Rattle.tree_rules.proofs.Names.{key, IsPlain, plain_spellable, plain_spelled, counts_from, nothing_named, Grown, then_grown}
 use Rattle.tree_rules.proofs.Bodies.{label, names_in, params_grown, body_grown}
-use Rattle.tree_rules.proofs.Known.{Shape, shape_of, AllKnown, stands_first, locals_known}
+use Rattle.tree_rules.proofs.Known.{shape_of, AllKnown, stands_first, locals_known}
 use Rattle.tree_rules.proofs.Uses.{scope_with, KnowsSymbol, IsKnown, literal_counted}
-use Rattle.tree_rules.proofs.Blocks.{HasFewSlots, blocks_fit}
+use Rattle.tree_rules.proofs.Blocks.{blocks_fit}
 use Rattle.tree_rules.proofs.Cases.{length_same}
 use Rattle.tree_rules.proofs.Counts.{instrs_count, blocks_count, slots_count, variables_count, params_widths, HasFew, within_limits, few_slots, few_names}
 use Rattle.tree_rules.proofs.Functions.{declared_function, declared_in, declared_within, not_false, scope_same}
@@ -149,10 +149,9 @@ number_in globals _ = 0
 abbrev number_of : Defined → ℕ → List ℕ → ℕ
 number_of final globals name = number_in globals (meaning_of final (Text name))
 
-symbols_differ : (raw : Raw) (final : Defined) (gs : List RawGlobal) (fs : List RawFunction) (functions : List RawFunction) (symbols : Defined) → EachFrom (IsGlobalAt final) 0 gs → EachFrom (IsFunctionAt functions symbols final) 0 fs
+symbols_differ : (final : Defined) (gs : List RawGlobal) (fs : List RawFunction) (functions : List RawFunction) (symbols : Defined) → EachFrom (IsGlobalAt final) 0 gs → EachFrom (IsFunctionAt functions symbols final) 0 fs
     → AllPairs (λ a b. a ≢ b) (map (λ g. g.name) (map global_of gs) ++ map (λ f. f.name) (map (function_of functions symbols) fs))
-symbols_differ raw final gs fs functions symbols one other =
-    let count : ℕ = length gs in
+symbols_differ final gs fs functions symbols one other =
     let size : length (map (λ (g : Global). g.name) (map global_of gs)) ≡ length gs = length_same (λ (g : Global). g.name) (map global_of gs) ∙ length_same global_of gs in
     numbered_differ (number_of final (length gs)) (map (λ (g : Global). g.name) (map global_of gs) ++ map (λ (f : Function). f.name) (map (function_of functions symbols) fs))
     (each_append (λ n name. number_of final (length gs) name ≡ n) 0 (length gs) (map (λ (g : Global). g.name) (map global_of gs)) (map (λ (f : Function). f.name) (map (function_of functions symbols) fs))
@@ -172,7 +171,7 @@ tree_admitted raw written few h =
     let keep = functions_keep raw (symbols_known raw.globals raw.functions) (symbols_of raw) raw.functions written.functions (omega (arith, few)) apart.1 in
     record {
       well_formed = record {
-        symbols_differ = symbols_differ raw (symbols_of raw) raw.globals raw.functions raw.functions (symbols_of raw) apart.0 apart.1;
+        symbols_differ = symbols_differ (symbols_of raw) raw.globals raw.functions raw.functions (symbols_of raw) apart.0 apart.1;
         globals = globals_keep (symbols_of raw) raw.globals written.globals apart.0;
         functions = All-weaker (Keeps (module_of raw)) (IsFunctionIn (module_of raw)) (λ f k. k.rules) (module_of raw).functions keep;
         few_globals = omega (arith, few, length_same global_of raw.globals);
