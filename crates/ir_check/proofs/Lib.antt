@@ -1,6 +1,6 @@
 pub mod InOrder
 pub mod Last
 pub mod Room
+pub mod Seen
 pub mod Sizes
 pub mod Steps
-pub mod Table

@@ -4,7 +4,8 @@ use Rattle.ir_types.specs.Rules.{Reached, after_instr, after_instrs, at_block, a
 use Rattle.ir_types.specs.declared.tree.RawInstr.{RawInstr}
 use Rattle.ir_types.specs.declared.tree.RawBlock.{RawBlock}
 use Rattle.ir_check.specs.Room.{blocks_size}
-use Rattle.ir_check.proofs.Steps.{counted, drop_at}
+use Rattle.ir_uses.proofs.Steps.{drop_at}
+use Rattle.ir_check.proofs.Steps.{counted}
 
 -- each instruction is a variable, or one that counts in its block
 pub all_counted : (r : Reached) (xs : List RawInstr) → (after_instrs r xs).variables + (after_instrs r xs).instrs ≡ r.variables + r.instrs + length xs

@@ -39,13 +39,6 @@ choice_problem c here w test one second other =
     value_problem c here I1 test >> value_problem c here w one >>
     broken BadType second.span (not (same_width second.item w)) >> value_problem c here w other
 
--- the callee, and then the arguments where its parameters are due
-abbrev pub call_problem : Context → Here → Ty → Bool → At (List ℕ) → List RawArg → Option Problem
-call_problem c here type named callee args = callee_problem c type named (length args) callee >> arguments_problem c here (params_of c callee.item) args
-
-abbrev pub call_of : Context → List ℕ → List RawArg → Kind
-call_of c callee args = Call (function_number c callee) (map (argument_of c) args)
-
 -- the name of what an instruction gives, if it gives anything
 abbrev pub result_of : Reached → RawInstr → Option Name
 result_of r x = if gives x.kind then Some (name_of r.before x.result) else None

@@ -2,14 +2,14 @@
 ghost use Rattle.std.specs.Prelude.{◌≡◌, ◌++◌, ◌<◌, ◌+◌, ◌^◌, length, IfOk, OnOk};
 ghost use Rattle.ir_types.specs.Rules.{after_block, after_blocks, after_instrs, at_block, block_problem, blocks_problem};
 ghost use Rattle.ir_types.specs.ModuleOf.{block_of, blocks_from, variables_from, vars_from};
-ghost use Rattle.ir_check.specs.Answers.{IsAnswer};
+ghost use Rattle.ir_uses.specs.Answers.{IsAnswer};
 ghost use Rattle.ir_check.specs.Room.{blocks_size};
 
-use crate::error::CheckError;
+use ir_uses::error::CheckError;
 use crate::instrs::instrs;
 use crate::reached::Reached;
 use crate::terms::term;
-use crate::uses::Context;
+use ir_uses::uses::Context;
 use ir_types::items::Items;
 use ir_types::name::Name;
 use ir_types::syntax::Block;

@@ -5,9 +5,9 @@ ghost use Rattle.ir_types.specs.ModuleOf.{module_of};
 ghost use Rattle.ir_types.specs.Rules.{tree_problem};
 ghost use Rattle.ir_types.specs.Size.{items};
 ghost use Rattle.ir_types.specs.Written.{IsSpelledTree};
-ghost use Rattle.ir_check.specs.Answers.{IsAnswer};
+ghost use Rattle.ir_uses.specs.Answers.{IsAnswer};
 
-use crate::error::CheckError;
+use ir_uses::error::CheckError;
 use crate::tree::{Parts, tree_parts};
 use ir_types::module::Module;
 use ir_types::tree::Raw;

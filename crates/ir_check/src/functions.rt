@@ -3,16 +3,16 @@ ghost use Rattle.std.specs.Prelude.{◌≡◌, ◌<◌, ◌≤◌, ◌^◌, leng
 ghost use Rattle.ir_types.specs.Rules.{after_params, body_problem, is_known_external, is_nil, locals_of, params_problem, takes_i32};
 ghost use Rattle.ir_types.specs.Size.{function_items};
 ghost use Rattle.ir_types.specs.ModuleOf.{function_of, numbered_from, params_from, width_of};
-ghost use Rattle.ir_check.specs.Answers.{IsAnswer};
+ghost use Rattle.ir_uses.specs.Answers.{IsAnswer};
 ghost use Rattle.ir_check.specs.Parts.{function_in, function_problem};
 
 use crate::blocks::{blocks, pass_blocks};
-use crate::definitions::Definitions;
-use crate::error::{CheckError, refuse_if};
+use ir_uses::definitions::Definitions;
+use ir_uses::error::{CheckError, refuse_if};
 use crate::limits::is_above_limits;
 use crate::reached::Reached;
-use crate::types::{is_same_type, is_same_width};
-use crate::uses::Context;
+use ir_uses::types::{is_same_type, is_same_width};
+use ir_uses::uses::Context;
 use ir_types::items::Items;
 use ir_types::name::Name;
 use ir_types::rules::{Meaning, Rule};

@@ -4,14 +4,14 @@ ghost use Rattle.ir_types.specs.Rules.{after_instrs, here, instr_problem, instrs
 ghost use Rattle.ir_types.specs.ModuleOf.{gives, instr_of, instrs_from, kind_of, operand_of, var_of, vars_from};
 ghost use Rattle.mc_num.specs.declared.op.Width.TheVariants.{I1};
 ghost use Rattle.ir_types.specs.declared.syntax.Kind.TheVariants.{Compute};
-ghost use Rattle.ir_check.specs.Answers.{IsAnswer};
+ghost use Rattle.ir_uses.specs.Answers.{IsAnswer};
 ghost use Rattle.ir_check.specs.Parts.{choice_problem, pair_of, pair_problem, result_of};
 
-use crate::calls::call;
-use crate::error::{CheckError, broken, refuse_if};
+use ir_uses::calls::call;
+use ir_uses::error::{CheckError, broken, refuse_if};
 use crate::reached::Reached;
-use crate::types::{fits_widths, is_same_width};
-use crate::uses::Context;
+use ir_uses::types::{fits_widths, is_same_width};
+use ir_uses::uses::Context;
 use ir_types::items::Items;
 use ir_types::name::Name;
 use ir_types::operands::Operands;

@@ -4,13 +4,13 @@ ghost use Rattle.ir_types.specs.Uses.{case_problem, cases_problem, is_seen};
 ghost use Rattle.ir_types.specs.Rules.{term_problem};
 ghost use Rattle.ir_types.specs.Literals.{literal_value};
 ghost use Rattle.ir_types.specs.ModuleOf.{case_of, term_of};
-ghost use Rattle.ir_check.specs.Answers.{IsAnswer};
+ghost use Rattle.ir_uses.specs.Answers.{IsAnswer};
 ghost use Rattle.ir_check.specs.Parts.{switch_problem, switch_of};
 
-use crate::error::{CheckError, refuse_if};
-use crate::literals::{constant_of, literal_value};
-use crate::types::{is_same_type, is_same_width};
-use crate::uses::Context;
+use ir_uses::error::{CheckError, refuse_if};
+use ir_uses::literals::{constant_of, literal_value};
+use ir_uses::types::{is_same_type, is_same_width};
+use ir_uses::uses::Context;
 use indexmap::IndexSet;
 use ir_types::items::Items;
 use ir_types::name::Name;

@@ -5,14 +5,14 @@ ghost use Rattle.ir_types.specs.Order.{Global as GlobalItem, items_in_order, sta
 ghost use Rattle.ir_types.specs.Rules.{after_item, at_top, item_problem, items_problem, symbols_of, tree_problem};
 ghost use Rattle.ir_types.specs.Size.{items};
 ghost use Rattle.ir_types.specs.ModuleOf.{function_of, global_of};
-ghost use Rattle.ir_check.specs.Answers.{IsAnswer};
+ghost use Rattle.ir_uses.specs.Answers.{IsAnswer};
 ghost use Rattle.ir_check.specs.Items.{IsFew, function_in, global_in, item_in, made_of, next_item};
 
-use crate::definitions::{Definitions, symbol_name};
-use crate::error::CheckError;
+use ir_uses::definitions::{Definitions, symbol_name};
+use ir_uses::error::CheckError;
 use crate::functions::function;
-use crate::literals::constant_of;
-use crate::uses::Context;
+use ir_uses::literals::constant_of;
+use ir_uses::uses::Context;
 use ir_types::items::Items;
 use ir_types::rules::{Here, Meaning};
 use ir_types::syntax;

@@ -5,7 +5,7 @@ ghost use Rattle.ir_types.specs.Size.{function_items, items};
 ghost use Rattle.ir_types.specs.Written.{IsSpelledFunction, IsSpelledTree};
 
 use super::check;
-use crate::error::CheckError;
+use ir_uses::error::CheckError;
 use crate::limits::within_limits;
 use ir_types::items::Items;
 use ir_types::name::Spelling;

@@ -3,7 +3,8 @@ use Rattle.std.proofs.lemmas.Result.{err_from_is_err_and}
 use Rattle.ir_types.specs.Rules.{at_block}
 use Rattle.ir_types.specs.ModuleOf.{block_of, vars_from}
 use Rattle.ir_check.proofs.Room.{room_for, room_after}
-use Rattle.ir_check.proofs.Steps.{passed, stopped, more, more_one, ended, blocks_problem-step, blocks_problem-end, blocks_from-step, blocks_from-end, variables_from-step, variables_from-end}
+use Rattle.ir_uses.proofs.Steps.{passed, stopped, more, more_one, ended}
+use Rattle.ir_check.proofs.Steps.{blocks_problem-step, blocks_problem-end, blocks_from-step, blocks_from-end, variables_from-step, variables_from-end}
 use Rattle.ir_check.proofs.blocks.blocks.Goals as goal
 
 pub block-requires : goal.block-requires

@@ -1,6 +1,7 @@
 use Rattle.std.proofs.Common.{◌≤◌, [], ◌∷◌, length, ◌∙◌, arith}
 use Rattle.ir_types.specs.declared.name.Name.TheVariants.{Number}
-use Rattle.ir_check.proofs.Steps.{more, ended, numbered_from-step, numbered_from-end}
+use Rattle.ir_uses.proofs.Steps.{more, ended}
+use Rattle.ir_check.proofs.Steps.{numbered_from-step, numbered_from-end}
 use Rattle.ir_check.proofs.functions.numbered.Goals as goal
 
 pub loop-index-preserved : goal.loop-index-preserved

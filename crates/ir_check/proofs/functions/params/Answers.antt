@@ -2,7 +2,8 @@ use Rattle.std.proofs.Common.{◌≡◌, ◌≤◌, ◌++◌, [], ◌∷◌, len
 use Rattle.std.proofs.lemmas.Result.{err_from_is_err_and}
 use Rattle.ir_types.specs.declared.name.Name.{Name}
 use Rattle.ir_types.specs.Definitions.{name_of}
-use Rattle.ir_check.proofs.Steps.{passed, stopped, more_one, ended, after_params-step, after_params-end, params_problem-step, params_problem-end, params_from-step, params_from-end}
+use Rattle.ir_uses.proofs.Steps.{passed, stopped, more_one, ended}
+use Rattle.ir_check.proofs.Steps.{after_params-step, after_params-end, params_problem-step, params_problem-end, params_from-step, params_from-end}
 use Rattle.ir_check.proofs.functions.params.Goals as goal
 
 pub returns-in_err-check_name-clause-problem : goal.returns-in_err-check_name-clause-problem

@@ -1,7 +1,8 @@
 use Rattle.std.proofs.Common.{sym, ◌∙◌, arith}
 use Rattle.std.proofs.lemmas.Result.{err_from_is_err_and}
 use Rattle.ir_types.specs.ModuleOf.{var_of, instr_of}
-use Rattle.ir_check.proofs.Steps.{counted, passed, stopped, more_some, ended, after_instrs-step, after_instrs-end, instrs_problem-step, instrs_problem-end, vars_from-step, vars_from-end, instrs_from-step, instrs_from-end}
+use Rattle.ir_uses.proofs.Steps.{passed, stopped, more_some, ended}
+use Rattle.ir_check.proofs.Steps.{counted, after_instrs-step, after_instrs-end, instrs_problem-step, instrs_problem-end, vars_from-step, vars_from-end, instrs_from-step, instrs_from-end}
 use Rattle.ir_check.proofs.instrs.instrs.Goals as goal
 
 pub returns-in_err-instr-clause-problem : goal.returns-in_err-instr-clause-problem

@@ -1,7 +1,8 @@
 use Rattle.std.proofs.Common.{sym, ◌∙◌, [], ◌∷◌}
 use Rattle.std.proofs.lemmas.Result.{err_from_is_err_and}
 use Rattle.ir_types.specs.ModuleOf.{case_of}
-use Rattle.ir_check.proofs.Steps.{passed, stopped, more, map-step, cases_problem-step, cases_problem-end}
+use Rattle.ir_uses.proofs.Steps.{passed, stopped, more, map-step}
+use Rattle.ir_check.proofs.Steps.{cases_problem-step, cases_problem-end}
 use Rattle.ir_check.proofs.terms.cases.Goals as goal
 
 pub returns-in_err-case-clause-problem : goal.returns-in_err-case-clause-problem

@@ -1,4 +1,4 @@
-use Rattle.ir_check.proofs.Table.{noted}
+use Rattle.ir_check.proofs.Seen.{noted}
 use Rattle.ir_check.proofs.terms.note.Goals as goal
 
 pub returns-in_ok-insert : goal.returns-in_ok-insert

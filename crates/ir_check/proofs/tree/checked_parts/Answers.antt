@@ -3,7 +3,7 @@ use Rattle.std.proofs.lemmas.Result.{err_from_is_err_and}
 use Rattle.ir_types.specs.ModuleOf.{function_of, global_of}
 use Rattle.ir_check.specs.declared.tree.Made.{Made}
 use Rattle.ir_check.specs.Items.{function_in, global_in, item_in, made_of, next_item}
-use Rattle.ir_check.proofs.Steps.{ended, more_some, passed, stopped}
+use Rattle.ir_uses.proofs.Steps.{ended, more_some, passed, stopped}
 use Rattle.ir_check.proofs.InOrder.{comes_first, found, items_problem-end, items_problem-step, none_left, not_found, shorter}
 use Rattle.ir_check.proofs.tree.checked_parts.Goals as goal
 

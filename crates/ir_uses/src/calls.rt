@@ -2,8 +2,8 @@
 ghost use Rattle.std.specs.Prelude.{◌≡◌, length, map, IfOk};
 ghost use Rattle.ir_types.specs.Uses.{argument_problem, arguments_problem, escape_problem};
 ghost use Rattle.ir_types.specs.ModuleOf.{argument_of};
-ghost use Rattle.ir_check.specs.Answers.{IsAnswer};
-ghost use Rattle.ir_check.specs.Parts.{call_problem, call_of};
+ghost use Rattle.ir_uses.specs.Answers.{IsAnswer};
+ghost use Rattle.ir_uses.specs.Calls.{call_problem, call_of};
 
 use crate::error::{CheckError, broken, refuse_if};
 use crate::meanings::is_undefined;

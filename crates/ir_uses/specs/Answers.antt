@@ -1,8 +1,8 @@
 -- What an answer tells of the first problem.
 use Rattle.std.specs.Prelude.{◌≡◌, Option, Some, None, Result, Ok, Err}
 use Rattle.ir_types.specs.declared.rules.Problem.{Problem}
-use Rattle.ir_check.specs.declared.error.CheckError.{CheckError}
-use Rattle.ir_check.specs.declared.error.CheckError.TheVariants.{Broken, NoMemory}
+use Rattle.ir_uses.specs.declared.error.CheckError.{CheckError}
+use Rattle.ir_uses.specs.declared.error.CheckError.TheVariants.{Broken, NoMemory}
 
 -- an error tells this problem, or want of memory
 abbrev pub Tells : CheckError → Option Problem → Type 0

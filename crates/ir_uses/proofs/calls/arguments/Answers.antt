@@ -1,8 +1,8 @@
 use Rattle.std.proofs.Common.{◌<◌, ◌≤◌, length, sym, ◌∙◌, [], ◌∷◌, arith}
 use Rattle.std.proofs.lemmas.Result.{err_from_is_err_and}
 use Rattle.ir_types.specs.ModuleOf.{argument_of}
-use Rattle.ir_check.proofs.Steps.{passed, stopped, more, map-step, arguments_problem-step, arguments_problem-end}
-use Rattle.ir_check.proofs.calls.arguments.Goals as goal
+use Rattle.ir_uses.proofs.Steps.{passed, stopped, more, map-step, arguments_problem-step, arguments_problem-end}
+use Rattle.ir_uses.proofs.calls.arguments.Goals as goal
 
 pub returns-in_err-argument-clause-problem : goal.returns-in_err-argument-clause-problem
 returns-in_err-argument-clause-problem c =

@@ -1,8 +1,8 @@
 use Rattle.std.proofs.Common.{◌≡◌, false, is_some, rules}
 use Rattle.indexmap.specs.IndexMap.{get}
 use Rattle.ir_types.specs.Definitions.{same_name}
-use Rattle.ir_check.proofs.Table.{added}
-use Rattle.ir_check.proofs.definitions.Definitions.add.Goals as goal
+use Rattle.ir_uses.proofs.Table.{added}
+use Rattle.ir_uses.proofs.definitions.Definitions.add.Goals as goal
 
 pub returns : goal.returns
 returns c =

@@ -1,7 +1,7 @@
 //! What names mean, by a table.
 ghost use Rattle.std.specs.Prelude.{◌≡◌, OnOk};
 ghost use Rattle.ir_types.specs.Definitions.{meaning_of, nothing, define, define_some, name_of, name_problem, is_counted, is_number, is_other_number, symbol_name, with_meaning};
-ghost use Rattle.ir_check.specs.Answers.{IsAnswer};
+ghost use Rattle.ir_uses.specs.Answers.{IsAnswer};
 
 use crate::error::{CheckError, refuse_if};
 use indexmap::IndexMap;

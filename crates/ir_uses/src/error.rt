@@ -1,6 +1,6 @@
 //! Why a tree has no module.
-ghost use Rattle.ir_check.specs.Answers.{IsAnswer};
-ghost use Rattle.ir_check.specs.declared.error.CheckError.TheVariants.{Broken, NoMemory};
+ghost use Rattle.ir_uses.specs.Answers.{IsAnswer};
+ghost use Rattle.ir_uses.specs.declared.error.CheckError.TheVariants.{Broken, NoMemory};
 ghost use Rattle.ir_types.specs.Problems.{broken};
 ghost use Rattle.std.specs.Prelude.{◌≡◌};
 

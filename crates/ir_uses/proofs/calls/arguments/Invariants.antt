@@ -1,7 +1,7 @@
 use Rattle.std.proofs.Common.{◌≡◌, ◌++◌, map, drop}
 use Rattle.ir_types.specs.Uses.{arguments_problem}
 use Rattle.ir_types.specs.ModuleOf.{argument_of}
-use Rattle.ir_check.proofs.calls.arguments.Given as goal
+use Rattle.ir_uses.proofs.calls.arguments.Given as goal
 
 abbrev pub invariant-loop-index : goal.invariant-loop-index
 invariant-loop-index l = record {

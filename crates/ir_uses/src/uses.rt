@@ -5,7 +5,7 @@ ghost use Rattle.ir_types.specs.Uses.{address_meaning, address_problem, callee_p
 ghost use Rattle.ir_types.specs.Definitions.{meaning_of};
 ghost use Rattle.ir_types.specs.ModuleOf.{function_number, operand_of, target_of, variable_of};
 ghost use Rattle.ir_types.specs.declared.name.Name.TheVariants.{Text};
-ghost use Rattle.ir_check.specs.Answers.{IsAnswer};
+ghost use Rattle.ir_uses.specs.Answers.{IsAnswer};
 
 use crate::definitions::Definitions;
 use crate::error::{CheckError, broken, refuse_if};
