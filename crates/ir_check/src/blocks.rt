@@ -5,15 +5,15 @@ ghost use Rattle.ir_types.specs.ModuleOf.{block_of, blocks_from, variables_from,
 ghost use Rattle.ir_uses.specs.Answers.{IsAnswer};
 ghost use Rattle.ir_check.specs.Room.{blocks_size};
 
-use ir_uses::error::CheckError;
 use crate::instrs::instrs;
 use crate::reached::Reached;
 use crate::terms::term;
-use ir_uses::uses::Context;
 use ir_types::items::Items;
 use ir_types::name::Name;
 use ir_types::syntax::Block;
 use ir_types::tree::{RawBlock, RawInstr};
+use ir_uses::error::CheckError;
+use ir_uses::uses::Context;
 use mc_num::Width;
 use std::alloc::{AllocError, Global};
 

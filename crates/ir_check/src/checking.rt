@@ -7,10 +7,10 @@ ghost use Rattle.ir_types.specs.Size.{items};
 ghost use Rattle.ir_types.specs.Written.{IsSpelledTree};
 ghost use Rattle.ir_uses.specs.Answers.{IsAnswer};
 
-use ir_uses::error::CheckError;
 use crate::tree::{Parts, tree_parts};
 use ir_types::module::Module;
 use ir_types::tree::Raw;
+use ir_uses::error::CheckError;
 use std::alloc::Global;
 use tree_rules::checked_trees;
 

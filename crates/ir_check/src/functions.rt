@@ -7,17 +7,17 @@ ghost use Rattle.ir_uses.specs.Answers.{IsAnswer};
 ghost use Rattle.ir_check.specs.Parts.{function_in, function_problem};
 
 use crate::blocks::{blocks, pass_blocks};
-use ir_uses::definitions::Definitions;
-use ir_uses::error::{CheckError, refuse_if};
 use crate::limits::is_above_limits;
 use crate::reached::Reached;
-use ir_uses::types::{is_same_type, is_same_width};
-use ir_uses::uses::Context;
 use ir_types::items::Items;
 use ir_types::name::Name;
 use ir_types::rules::{Meaning, Rule};
 use ir_types::syntax::Function;
 use ir_types::tree::{RawFunction, RawParam, Ty};
+use ir_uses::definitions::Definitions;
+use ir_uses::error::{CheckError, refuse_if};
+use ir_uses::types::{is_same_type, is_same_width};
+use ir_uses::uses::Context;
 use mc_num::Width;
 use std::alloc::{AllocError, Global};
 

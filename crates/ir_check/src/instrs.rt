@@ -7,11 +7,7 @@ ghost use Rattle.ir_types.specs.declared.syntax.Kind.TheVariants.{Compute};
 ghost use Rattle.ir_uses.specs.Answers.{IsAnswer};
 ghost use Rattle.ir_check.specs.Parts.{choice_problem, pair_of, pair_problem, result_of};
 
-use ir_uses::calls::call;
-use ir_uses::error::{CheckError, broken, refuse_if};
 use crate::reached::Reached;
-use ir_uses::types::{fits_widths, is_same_width};
-use ir_uses::uses::Context;
 use ir_types::items::Items;
 use ir_types::name::Name;
 use ir_types::operands::Operands;
@@ -19,6 +15,10 @@ use ir_types::rules::{Here, Rule};
 use ir_types::span::At;
 use ir_types::syntax::{Instr, Kind, Operand};
 use ir_types::tree::{RawInstr, RawKind, RawValue, Ty};
+use ir_uses::calls::call;
+use ir_uses::error::{CheckError, broken, refuse_if};
+use ir_uses::types::{fits_widths, is_same_width};
+use ir_uses::uses::Context;
 use mc_num::{Op, Width};
 use std::alloc::{AllocError, Global};
 

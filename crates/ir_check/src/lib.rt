@@ -11,5 +11,5 @@ mod terms;
 mod tree;
 
 pub use checking::check;
-pub use limits::within_limits;
 pub use ir_uses::error::CheckError;
+pub use limits::within_limits;

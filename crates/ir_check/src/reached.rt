@@ -3,9 +3,9 @@ ghost use Rattle.std.specs.Prelude.{◌≡◌, ◌<◌, ◌+◌, ◌^◌, OnOk};
 ghost use Rattle.ir_types.specs.Limits.{is_alloca};
 ghost use Rattle.ir_types.specs.Rules.{after_instr, at_block, here, next_block, register, result_meaning, result_type};
 
-use ir_uses::definitions::Definitions;
 use ir_types::rules::{Here, Meaning};
 use ir_types::tree::{RawBlock, RawInstr, RawKind, Ty};
+use ir_uses::definitions::Definitions;
 use mc_num::Width;
 use std::alloc::AllocError;
 use std::marker::Model;

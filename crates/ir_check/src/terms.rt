@@ -7,10 +7,6 @@ ghost use Rattle.ir_types.specs.ModuleOf.{case_of, term_of};
 ghost use Rattle.ir_uses.specs.Answers.{IsAnswer};
 ghost use Rattle.ir_check.specs.Parts.{switch_problem, switch_of};
 
-use ir_uses::error::{CheckError, refuse_if};
-use ir_uses::literals::{constant_of, literal_value};
-use ir_uses::types::{is_same_type, is_same_width};
-use ir_uses::uses::Context;
 use indexmap::IndexSet;
 use ir_types::items::Items;
 use ir_types::name::Name;
@@ -18,6 +14,10 @@ use ir_types::rules::{Here, Rule};
 use ir_types::span::{At, Span};
 use ir_types::syntax::Terminator;
 use ir_types::tree::{RawCase, RawTerm, RawValue, Ty};
+use ir_uses::error::{CheckError, refuse_if};
+use ir_uses::literals::{constant_of, literal_value};
+use ir_uses::types::{is_same_type, is_same_width};
+use ir_uses::uses::Context;
 use mc_num::Width;
 use std::alloc::{AllocError, Global};
 

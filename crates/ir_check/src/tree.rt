@@ -8,15 +8,15 @@ ghost use Rattle.ir_types.specs.ModuleOf.{function_of, global_of};
 ghost use Rattle.ir_uses.specs.Answers.{IsAnswer};
 ghost use Rattle.ir_check.specs.Items.{IsFew, function_in, global_in, item_in, made_of, next_item};
 
-use ir_uses::definitions::{Definitions, symbol_name};
-use ir_uses::error::CheckError;
 use crate::functions::function;
-use ir_uses::literals::constant_of;
-use ir_uses::uses::Context;
 use ir_types::items::Items;
 use ir_types::rules::{Here, Meaning};
 use ir_types::syntax;
 use ir_types::tree::{Raw, RawFunction, RawGlobal, Ty};
+use ir_uses::definitions::{Definitions, symbol_name};
+use ir_uses::error::CheckError;
+use ir_uses::literals::constant_of;
+use ir_uses::uses::Context;
 use std::alloc::{AllocError, Global};
 use std::marker::Model;
 

@@ -5,13 +5,13 @@ ghost use Rattle.ir_types.specs.Size.{function_items, items};
 ghost use Rattle.ir_types.specs.Written.{IsSpelledFunction, IsSpelledTree};
 
 use super::check;
-use ir_uses::error::CheckError;
 use crate::limits::within_limits;
 use ir_types::items::Items;
 use ir_types::name::Spelling;
 use ir_types::rules::Rule;
 use ir_types::span::{At, Span};
 use ir_types::tree::{Raw, RawFunction, RawGlobal, RawValue, Ty};
+use ir_uses::error::CheckError;
 use mc_num::Width;
 use std::alloc::{AllocError, Global};
 use std::test::Fail;
