@@ -1,7 +1,6 @@
-pub mod Admitted
-pub mod Distinct
-pub mod Fitting
-pub mod Made
+pub mod InOrder
+pub mod Last
+pub mod Room
+pub mod Seen
+pub mod Sizes
 pub mod Steps
-pub mod Table
-pub mod Using

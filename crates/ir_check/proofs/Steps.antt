@@ -1,40 +1,36 @@
--- A loop over the instructions of a block: what is left after one more.
-use Rattle.std.proofs.Common.{◌≡◌, ◌<◌, ◌≤◌, ◌+◌, ◌^◌, ◌||◌, ℕ, suc, Bool, true, false, not, nat_lt, List, [], ◌∷◌, ◌++◌, append_assoc, append-nil, Option, None, length, cond, get_or, drop, drop-cons, add-one, refl, sym, ap, ◌∙◌, arith}
-use Rattle.std.specs.Prelude.{count_by, option_to_list, if◌then◌else◌}
-use Rattle.std.proofs.lemmas.List.{drop_all}
-use Rattle.std.proofs.lemmas.List.Recursion.{is_count_by}
-use Rattle.std.proofs.lemmas.Bool.Decides.{nat_tests}
+-- Loops over the parts of functions: what is left after one part more.
+use Rattle.std.proofs.Common.{◌≡◌, ◌<◌, ◌≤◌, ◌+◌, ℕ, suc, Bool, true, false, List, [], ◌∷◌, ◌++◌, append_assoc, append-nil, Option, None, length, map, get_or, drop, drop-cons, add-one, refl, sym, ap, ◌∙◌, arith}
+use Rattle.std.specs.Prelude.{option_to_list, if◌then◌else◌}
 use Rattle.mc_num.specs.declared.op.Width.{Width}
-use Rattle.ir_types.specs.Rules.{◌>>◌, Defined, Reached, is_alloca, after_instr, after_instrs, instr_problem, instrs_problem, at_start, is_above_limits}
-use Rattle.ir_types.specs.ModuleOf.{var_of, instr_of, vars_from, instrs_from}
+use Rattle.ir_types.specs.Problems.{◌>>◌}
+use Rattle.ir_types.specs.Definitions.{Defined, define, name_of, name_problem}
+use Rattle.ir_types.specs.Literals.{literal_value}
+use Rattle.ir_types.specs.Limits.{is_alloca}
+use Rattle.ir_types.specs.Uses.{Context, case_problem, cases_problem}
+use Rattle.ir_types.specs.Rules.{Reached, after_instr, after_instrs, instr_problem, instrs_problem, at_block, after_block, after_blocks, block_problem, blocks_problem, after_params, params_problem}
+use Rattle.ir_types.specs.ModuleOf.{var_of, instr_of, vars_from, instrs_from, block_of, blocks_from, variables_from, params_from, numbered_from}
 use Rattle.ir_types.specs.declared.name.Name.{Name}
+use Rattle.ir_types.specs.declared.name.Name.TheVariants.{Number}
+use Rattle.ir_types.specs.declared.rules.Here.{Here}
 use Rattle.ir_types.specs.declared.rules.Problem.{Problem}
+use Rattle.ir_types.specs.declared.rules.Meaning.TheVariants.{Parameter}
 use Rattle.ir_types.specs.declared.syntax.Instr.{Instr}
+use Rattle.ir_types.specs.declared.syntax.Block.{Block}
+use Rattle.ir_types.specs.declared.tree.RawCase.{RawCase}
+use Rattle.ir_types.specs.declared.tree.RawParam.{RawParam}
 use Rattle.ir_types.specs.declared.tree.RawInstr.{RawInstr}
 use Rattle.ir_types.specs.declared.tree.RawBlock.{RawBlock}
-use Rattle.ir_check.specs.Answers.{Tells}
-use Rattle.ir_check.specs.declared.error.CheckError.{CheckError}
-use Rattle.ir_check.specs.declared.error.CheckError.TheVariants.{Broken, NoMemory}
+use Rattle.ir_uses.proofs.Steps.{drop_at, drop_end}
 
--- a part without a problem leaves what the rest has
-pub passed : (p q w : Option Problem) → p ≡ None → w ≡ (p >> q) → w ≡ q
-passed p q w h e = e ∙ ap (λ (o : Option Problem). o >> q) h
+module _ (c : Context) (here : Here) (w : Width) (seen : List ℕ) (i : ℕ) (xs : List RawCase) where
+  pub cases_problem-step : (x : RawCase) → i < length xs → x ≡ get_or xs i x
+      → cases_problem c here w seen (drop i xs) ≡ (case_problem c here w seen x >> cases_problem c here w (seen ++ option_to_list (literal_value w x.value.item)) (drop (i + 1) xs))
+  unfolding cases_problem
+  cases_problem-step x l e = rw (drop_at xs i x l e) refl
 
--- an error of a part is an error of the whole
-pub stopped : (e : CheckError) (p q w : Option Problem) → Tells e p → w ≡ (p >> q) → Tells e w
-stopped (Broken x) p q w h e = e ∙ ap (λ (o : Option Problem). o >> q) h
-stopped NoMemory p q w h e = tt
-
-drop_at : {X : Type 0} (xs : List X) (i : ℕ) (x : X) → i < length xs → x ≡ get_or xs i x → drop i xs ≡ x ∷ drop (i + 1) xs
-drop_at xs i x l e = rw (add-one) (drop-cons xs i x l ∙ ap (λ y. y ∷ drop (suc i) xs) (sym e))
-
--- one instruction more stands before the place
-pub counted : (r : Reached) (x : RawInstr) → (after_instr r x).variables + (after_instr r x).instrs ≡ r.variables + r.instrs + 1
-counted r x = by (is_alloca x.kind)
-  where
-    by : (b : Bool) → (if b then r.variables + 1 else r.variables) + (if b then r.instrs else r.instrs + 1) ≡ r.variables + r.instrs + 1
-    by true = omega arith
-    by false = omega arith
+  pub cases_problem-end : length xs ≤ i → cases_problem c here w seen (drop i xs) ≡ None
+  unfolding cases_problem
+  cases_problem-end h = rw (drop_end xs i h) refl
 
 module _ (r : Reached) (xs : List RawInstr) (i : ℕ) where
   pub after_instrs-step : (x : RawInstr) → i < length xs → x ≡ get_or xs i x → after_instrs r (drop i xs) ≡ after_instrs (after_instr r x) (drop (i + 1) xs)
@@ -43,81 +39,108 @@ module _ (r : Reached) (xs : List RawInstr) (i : ℕ) where
 
   pub after_instrs-end : length xs ≤ i → after_instrs r (drop i xs) ≡ r
   unfolding after_instrs
-  after_instrs-end h = rw (drop_all i xs h) refl
+  after_instrs-end h = rw (drop_end xs i h) refl
 
-  pub instrs_problem-step : (locals : Defined) (x : RawInstr) → i < length xs → x ≡ get_or xs i x
-      → instrs_problem locals r (drop i xs) ≡ (instr_problem locals r x >> instrs_problem locals (after_instr r x) (drop (i + 1) xs))
+  pub instrs_problem-step : (c : Context) (x : RawInstr) → i < length xs → x ≡ get_or xs i x
+      → instrs_problem c r (drop i xs) ≡ (instr_problem c r x >> instrs_problem c (after_instr r x) (drop (i + 1) xs))
   unfolding instrs_problem
-  instrs_problem-step locals x l e = rw (drop_at xs i x l e) refl
+  instrs_problem-step c x l e = rw (drop_at xs i x l e) refl
 
-  pub instrs_problem-end : (locals : Defined) → length xs ≤ i → instrs_problem locals r (drop i xs) ≡ None
+  pub instrs_problem-end : (c : Context) → length xs ≤ i → instrs_problem c r (drop i xs) ≡ None
   unfolding instrs_problem
-  instrs_problem-end locals h = rw (drop_all i xs h) refl
+  instrs_problem-end c h = rw (drop_end xs i h) refl
 
-  vars_from-step : (x : RawInstr) → i < length xs → x ≡ get_or xs i x → vars_from r (drop i xs) ≡ option_to_list (var_of r x x.kind) ++ vars_from (after_instr r x) (drop (i + 1) xs)
+  pub vars_from-step : (x : RawInstr) → i < length xs → x ≡ get_or xs i x → vars_from r (drop i xs) ≡ option_to_list (var_of r x x.kind) ++ vars_from (after_instr r x) (drop (i + 1) xs)
   unfolding vars_from
   vars_from-step x l e = rw (drop_at xs i x l e) refl
 
-  -- what is made with what is left is the whole
-  pub vars-more : (built all : List (Width × Name)) (x : RawInstr) (o : Option (Width × Name)) → i < length xs → x ≡ get_or xs i x → o ≡ var_of r x x.kind
-      → built ++ vars_from r (drop i xs) ≡ all → (built ++ option_to_list o) ++ vars_from (after_instr r x) (drop (i + 1) xs) ≡ all
-  vars-more built all x o l e is h =
-      append_assoc built (option_to_list o) (vars_from (after_instr r x) (drop (i + 1) xs))
-      ∙ (ap (λ (t : Option (Width × Name)). built ++ (option_to_list t ++ vars_from (after_instr r x) (drop (i + 1) xs))) is
-      ∙ (ap (λ (t : List (Width × Name)). built ++ t) (sym (vars_from-step x l e)) ∙ h))
-
-  pub vars-end : (built all : List (Width × Name)) → length xs ≤ i → built ++ vars_from r (drop i xs) ≡ all → built ≡ all
+  pub vars_from-end : length xs ≤ i → vars_from r (drop i xs) ≡ []
   unfolding vars_from
-  vars-end built all h e = sym (append-nil built) ∙ (ap (λ (t : List RawInstr). built ++ vars_from r t) (sym (drop_all i xs h)) ∙ e)
+  vars_from-end h = rw (drop_end xs i h) refl
 
-  instrs_from-step : (locals : Defined) (x : RawInstr) → i < length xs → x ≡ get_or xs i x → instrs_from locals r (drop i xs) ≡ option_to_list (instr_of locals r x x.kind) ++ instrs_from locals (after_instr r x) (drop (i + 1) xs)
+  pub instrs_from-step : (c : Context) (x : RawInstr) → i < length xs → x ≡ get_or xs i x → instrs_from c r (drop i xs) ≡ option_to_list (instr_of c r x) ++ instrs_from c (after_instr r x) (drop (i + 1) xs)
   unfolding instrs_from
-  instrs_from-step locals x l e = rw (drop_at xs i x l e) refl
+  instrs_from-step c x l e = rw (drop_at xs i x l e) refl
 
-  pub instrs-more : (locals : Defined) (built all : List Instr) (x : RawInstr) (o : Option Instr) → i < length xs → x ≡ get_or xs i x → o ≡ instr_of locals r x x.kind
-      → built ++ instrs_from locals r (drop i xs) ≡ all → (built ++ option_to_list o) ++ instrs_from locals (after_instr r x) (drop (i + 1) xs) ≡ all
-  instrs-more locals built all x o l e is h =
-      append_assoc built (option_to_list o) (instrs_from locals (after_instr r x) (drop (i + 1) xs))
-      ∙ (ap (λ (t : Option Instr). built ++ (option_to_list t ++ instrs_from locals (after_instr r x) (drop (i + 1) xs))) is
-      ∙ (ap (λ (t : List Instr). built ++ t) (sym (instrs_from-step locals x l e)) ∙ h))
-
-  pub instrs-end : (locals : Defined) (built all : List Instr) → length xs ≤ i → built ++ instrs_from locals r (drop i xs) ≡ all → built ≡ all
+  pub instrs_from-end : (c : Context) → length xs ≤ i → instrs_from c r (drop i xs) ≡ []
   unfolding instrs_from
-  instrs-end locals built all h e = sym (append-nil built) ∙ (ap (λ (t : List RawInstr). built ++ instrs_from locals r t) (sym (drop_all i xs h)) ∙ e)
+  instrs_from-end c h = rw (drop_end xs i h) refl
 
-unfoldable pub how_many : (RawInstr → Bool) → List RawInstr → ℕ
-how_many p [] = 0
-how_many p (x ∷ xs) = cond (p x) (1 + how_many p xs) (how_many p xs)
+module _ (i : ℕ) (before : Defined) (ps : List RawParam) where
+  pub after_params-step : (p : RawParam) → i < length ps → p ≡ get_or ps i p → after_params i before (drop i ps) ≡ after_params (i + 1) (define before p.name (Parameter i p.width)) (drop (i + 1) ps)
+  unfolding after_params
+  after_params-step p l e = rw (drop_at ps i p l e) refl
 
-pub how_many_is : (p : RawInstr → Bool) (xs : List RawInstr) → how_many p xs ≡ count_by p xs
-unfolding how_many
-how_many_is p xs = is_count_by (how_many p) p refl (λ x ys. refl) xs
+  pub after_params-end : length ps ≤ i → after_params i before (drop i ps) ≡ before
+  unfolding after_params
+  after_params-end h = rw (drop_end ps i h) refl
 
-counts_step : (b : Bool) (p q n : ℕ) → p + q ≡ n → cond b (1 + p) p + cond (not b) (1 + q) q ≡ suc n
-counts_step true p q n h = omega arith
-counts_step false p q n h = omega arith
+  pub params_problem-step : (p : RawParam) → i < length ps → p ≡ get_or ps i p
+      → params_problem i before (drop i ps) ≡ (name_problem before p.name >> params_problem (i + 1) (define before p.name (Parameter i p.width)) (drop (i + 1) ps))
+  unfolding params_problem
+  params_problem-step p l e = rw (drop_at ps i p l e) refl
 
-both_counts : (xs : List RawInstr) → how_many (λ x. is_alloca x.kind) xs + how_many (λ x. not (is_alloca x.kind)) xs ≡ length xs
-unfolding how_many
-both_counts [] = refl
-both_counts (x ∷ xs) = counts_step (is_alloca x.kind) (how_many (λ x. is_alloca x.kind) xs) (how_many (λ x. not (is_alloca x.kind)) xs) (length xs) (both_counts xs)
+  pub params_problem-end : length ps ≤ i → params_problem i before (drop i ps) ≡ None
+  unfolding params_problem
+  params_problem-end h = rw (drop_end ps i h) refl
 
-pub counts : (xs : List RawInstr) → count_by (λ x. is_alloca x.kind) xs + count_by (λ x. not (is_alloca x.kind)) xs ≡ length xs
-counts xs = omega (arith, both_counts xs, how_many_is (λ x. is_alloca x.kind) xs, how_many_is (λ x. not (is_alloca x.kind)) xs)
+  pub params_from-step : (p : RawParam) → i < length ps → p ≡ get_or ps i p
+      → params_from i before (drop i ps) ≡ (p.width, name_of before p.name) ∷ params_from (i + 1) (define before p.name (Parameter i p.width)) (drop (i + 1) ps)
+  unfolding params_from
+  params_from-step p l e = rw (drop_at ps i p l e) refl
 
-pub two_limits : (p q : ℕ) → (nat_lt (2 ^ 20) p || nat_lt (2 ^ 18) q) ≡ false → (p ≤ 2 ^ 20) × (q ≤ 2 ^ 18)
-two_limits p q h = grind (arith, nat_tests)
+  pub params_from-end : length ps ≤ i → params_from i before (drop i ps) ≡ []
+  unfolding params_from
+  params_from-end h = rw (drop_end ps i h) refl
 
--- a block within the limits has few instructions
-pub few_instrs : (b : RawBlock) → is_above_limits b ≡ false → length b.instrs ≤ 2 ^ 21
-few_instrs b h =
-    let l = two_limits (count_by (λ x. is_alloca x.kind) b.instrs) (count_by (λ x. not (is_alloca x.kind)) b.instrs) h in
-    omega (arith, l, counts b.instrs)
+module _ (i : ℕ) (ps : List RawParam) where
+  pub numbered_from-step : (p : RawParam) → i < length ps → p ≡ get_or ps i p → numbered_from i (drop i ps) ≡ (p.width, Number i) ∷ numbered_from (i + 1) (drop (i + 1) ps)
+  unfolding numbered_from
+  numbered_from-step p l e = rw (drop_at ps i p l e) refl
 
--- the numbers of such a block fit
-pub room : (b : RawBlock) (r : Reached) (xs : List RawInstr) → is_above_limits b ≡ false → r ≡ at_start b → xs ≡ b.instrs → r.variables + r.instrs + length xs < 4294967296
-room b r xs h start all =
-    let none : r.variables ≡ 0 = ap (λ (r : Reached). r.variables) start in
-    let none' : r.instrs ≡ 0 = ap (λ (r : Reached). r.instrs) start in
-    let size : length xs ≡ length b.instrs = ap (λ (s : List RawInstr). length s) all in
-    omega (arith, few_instrs b h)
+  pub numbered_from-end : length ps ≤ i → numbered_from i (drop i ps) ≡ []
+  unfolding numbered_from
+  numbered_from-end h = rw (drop_end ps i h) refl
+
+module _ (r : Reached) (xs : List RawBlock) (i : ℕ) where
+  pub after_blocks-step : (x : RawBlock) → i < length xs → x ≡ get_or xs i x → after_blocks r (drop i xs) ≡ after_blocks (after_block r x) (drop (i + 1) xs)
+  unfolding after_blocks
+  after_blocks-step x l e = rw (drop_at xs i x l e) refl
+
+  pub after_blocks-end : length xs ≤ i → after_blocks r (drop i xs) ≡ r
+  unfolding after_blocks
+  after_blocks-end h = rw (drop_end xs i h) refl
+
+  pub blocks_problem-step : (c : Context) (x : RawBlock) → i < length xs → x ≡ get_or xs i x
+      → blocks_problem c r (drop i xs) ≡ (block_problem c r x >> blocks_problem c (after_block r x) (drop (i + 1) xs))
+  unfolding blocks_problem
+  blocks_problem-step c x l e = rw (drop_at xs i x l e) refl
+
+  pub blocks_problem-end : (c : Context) → length xs ≤ i → blocks_problem c r (drop i xs) ≡ None
+  unfolding blocks_problem
+  blocks_problem-end c h = rw (drop_end xs i h) refl
+
+  pub blocks_from-step : (c : Context) (x : RawBlock) → i < length xs → x ≡ get_or xs i x → blocks_from c r (drop i xs) ≡ block_of c r x ∷ blocks_from c (after_block r x) (drop (i + 1) xs)
+  unfolding blocks_from
+  blocks_from-step c x l e = rw (drop_at xs i x l e) refl
+
+  pub blocks_from-end : (c : Context) → length xs ≤ i → blocks_from c r (drop i xs) ≡ []
+  unfolding blocks_from
+  blocks_from-end c h = rw (drop_end xs i h) refl
+
+  pub variables_from-step : (x : RawBlock) → i < length xs → x ≡ get_or xs i x
+      → variables_from r (drop i xs) ≡ vars_from (at_block r x) x.instrs ++ variables_from (after_block r x) (drop (i + 1) xs)
+  unfolding variables_from
+  variables_from-step x l e = rw (drop_at xs i x l e) refl
+
+  pub variables_from-end : length xs ≤ i → variables_from r (drop i xs) ≡ []
+  unfolding variables_from
+  variables_from-end h = rw (drop_end xs i h) refl
+
+-- one instruction more stands before the place
+pub counted : (r : Reached) (x : RawInstr) → (after_instr r x).variables + (after_instr r x).instrs ≡ r.variables + r.instrs + 1
+counted r x = by (is_alloca x.kind)
+  where
+    by : (b : Bool) → (if b then r.variables + 1 else r.variables) + (if b then r.instrs else r.instrs + 1) ≡ r.variables + r.instrs + 1
+    by true = omega arith
+    by false = omega arith

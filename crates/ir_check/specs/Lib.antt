@@ -1,3 +1,4 @@
-pub mod Answers
+pub use Rattle.ir_uses.specs.Answers
 pub mod Parts
-pub mod Modules
+pub mod Room
+pub mod Items

@@ -1,25 +1,70 @@
--- What an instruction of a tree becomes.
-use Rattle.std.specs.Prelude.{Option, Some, None, not}
-use Rattle.ir_types.specs.declared.rules.Problem.{Problem}
-use Rattle.ir_types.specs.declared.rules.Rule.TheVariants.{NotYet}
-use Rattle.ir_types.specs.declared.tree.RawInstr.{RawInstr}
-use Rattle.ir_types.specs.Rules.{Defined, Reached, ◌>>◌, broken, is_first_kind, kind_problem}
+-- Parts of what instructions and terminators become, and of what is wrong with them.
+use Rattle.std.specs.Prelude.{ℕ, ◌&&◌, not, Bool, List, [], ◌∷◌, length, map, Option, Some, None, if◌then◌else◌}
 use Rattle.mc_num.specs.declared.op.Width.{Width}
+use Rattle.mc_num.specs.declared.op.Width.TheVariants.{I1}
+use Rattle.ir_types.specs.Problems.{◌>>◌, broken}
+use Rattle.ir_types.specs.Definitions.{Defined, name_of, nothing}
+use Rattle.ir_types.specs.Rules.{Reached, at_body, body_problem, context_in, is_known_external, is_nil}
+use Rattle.ir_types.specs.Limits.{is_above_limits}
+use Rattle.ir_types.specs.Uses.{Context, same_width, value_problem, label_problem, cases_problem, callee_problem, arguments_problem, params_of}
+use Rattle.ir_types.specs.ModuleOf.{gives, operand_of, argument_of, function_number, target_of, case_of, width_of, numbered_from, params_from, variables_from, blocks_from}
+use Rattle.ir_types.specs.declared.span.At.{At}
 use Rattle.ir_types.specs.declared.name.Name.{Name}
-use Rattle.ir_types.specs.declared.syntax.Instr.{Instr}
-use Rattle.ir_check.specs.declared.parts.Part.{Part}
-use Rattle.ir_check.specs.declared.parts.Part.TheVariants.{Variable, Instruction}
+use Rattle.ir_types.specs.declared.rules.Here.{Here}
+use Rattle.ir_types.specs.declared.rules.Problem.{Problem}
+use Rattle.ir_types.specs.declared.rules.Rule.TheVariants.{BadType, UnknownExternal, Limit}
+use Rattle.ir_types.specs.declared.syntax.Function.{Function}
+use Rattle.ir_types.specs.declared.syntax.Operand.{Operand}
+use Rattle.ir_types.specs.declared.syntax.Kind.{Kind}
+use Rattle.ir_types.specs.declared.syntax.Kind.TheVariants.{Call}
+use Rattle.ir_types.specs.declared.syntax.Terminator.{Terminator}
+use Rattle.ir_types.specs.declared.syntax.Terminator.TheVariants.{Switch}
+use Rattle.ir_types.specs.declared.tree.RawValue.{RawValue}
+use Rattle.ir_types.specs.declared.tree.RawArg.{RawArg}
+use Rattle.ir_types.specs.declared.tree.RawFunction.{RawFunction}
+use Rattle.ir_types.specs.declared.tree.RawInstr.{RawInstr}
+use Rattle.ir_types.specs.declared.tree.RawCase.{RawCase}
+use Rattle.ir_types.specs.declared.tree.Ty.{Ty}
 
--- the variable, if it becomes one
-abbrev pub variable_in : Part → Option (Width × Name)
-variable_in (Variable w n) = Some (w, n)
-variable_in (Instruction i) = None
+-- two values of one width
+abbrev pub pair_problem : Context → Here → Width → At RawValue → At RawValue → Option Problem
+pair_problem c here w one other = value_problem c here w one >> value_problem c here w other
 
--- the instruction, if it becomes one
-abbrev pub instruction_in : Part → Option Instr
-instruction_in (Variable w n) = None
-instruction_in (Instruction i) = Some i
+abbrev pub pair_of : Context → Width → RawValue → RawValue → List Operand
+pair_of c w one other = operand_of c w one ∷ operand_of c w other ∷ []
 
--- what is wrong with an instruction behind its name
-abbrev pub unnamed_problem : Defined → Reached → RawInstr → Option Problem
-unnamed_problem locals r x = broken NotYet x.word (not (is_first_kind x.kind)) >> kind_problem locals r x.word x.kind
+-- a condition, a value, the type written for the other value, and that value
+abbrev pub choice_problem : Context → Here → Width → At RawValue → At RawValue → At Width → At RawValue → Option Problem
+choice_problem c here w test one second other =
+    value_problem c here I1 test >> value_problem c here w one >>
+    broken BadType second.span (not (same_width second.item w)) >> value_problem c here w other
+
+-- the name of what an instruction gives, if it gives anything
+abbrev pub result_of : Reached → RawInstr → Option Name
+result_of r x = if gives x.kind then Some (name_of r.before x.result) else None
+
+-- the value, the label without a case, and then the cases
+abbrev pub switch_problem : Context → Here → Width → At RawValue → At Name → List RawCase → Option Problem
+switch_problem c here w v other cases = value_problem c here w v >> label_problem c here other >> cases_problem c here w [] cases
+
+abbrev pub switch_of : Context → Width → RawValue → Name → List RawCase → Terminator
+switch_of c w v other cases = Switch w (operand_of c w v) (target_of c other) (map (case_of c w) cases)
+
+-- ---- functions
+
+-- what is wrong with a function behind its name
+abbrev pub function_problem : List RawFunction → Defined → RawFunction → Option Problem
+function_problem functions symbols f =
+    broken UnknownExternal f.name.span (is_nil f.blocks && not (is_known_external f)) >>
+    broken Limit f.name.span (is_above_limits f) >>
+    body_problem (context_in functions symbols f) f
+
+-- what a function with these surroundings becomes
+abbrev pub function_in : Context → RawFunction → Function
+function_in c f = record {
+  name = f.name.item;
+  ret = width_of f.ret;
+  params = if is_nil f.blocks then numbered_from 0 f.params else params_from 0 nothing f.params;
+  vars = variables_from (at_body f) f.blocks;
+  blocks = blocks_from c (at_body f) f.blocks;
+}

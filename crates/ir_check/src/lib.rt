@@ -1,15 +1,15 @@
 //! The rules of a tree: the module that it means, or its first problem.
 #![tactic(auto)]
 
-mod block;
+mod blocks;
 mod checking;
-mod definitions;
-mod error;
-mod law;
-mod parts;
+mod functions;
+mod instrs;
+mod limits;
 mod reached;
-mod uses;
+mod terms;
+mod tree;
 
 pub use checking::check;
-pub use error::CheckError;
-pub use law::checked_modules;
+pub use ir_uses::error::CheckError;
+pub use limits::within_limits;

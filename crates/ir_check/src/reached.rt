@@ -1,17 +1,21 @@
-//! What stands before a place of a block.
-ghost use Rattle.std.specs.Prelude.{◌≡◌, ◌<◌, ◌+◌, ◌^◌, OnOk, IfOk};
-ghost use Rattle.ir_types.specs.Rules.{is_alloca, result_meaning, after_instr, at_start};
+//! What stands before a place of a function.
+ghost use Rattle.std.specs.Prelude.{◌≡◌, ◌<◌, ◌+◌, ◌^◌, OnOk};
+ghost use Rattle.ir_types.specs.Limits.{is_alloca};
+ghost use Rattle.ir_types.specs.Rules.{after_instr, at_block, here, next_block, register, result_meaning, result_type};
 
-use crate::definitions::Definitions;
-use ir_types::rules::Meaning;
-use ir_types::tree::{RawBlock, RawInstr, RawKind};
-use std::alloc::{AllocError, Global};
+use ir_types::rules::{Here, Meaning};
+use ir_types::tree::{RawBlock, RawInstr, RawKind, Ty};
+use ir_uses::definitions::Definitions;
+use mc_num::Width;
+use std::alloc::AllocError;
 use std::marker::Model;
 
-/// What the names before a place of a block mean, and how many variables and other instructions stand there.
+/// What the names before a place of a function mean, in which block the place is, and how many variables of the
+/// function, and how many instructions of the block that are no allocas, stand before it.
 #[derive(Drop)]
 pub struct Reached<'a> {
     before: Definitions<'a>,
+    block: u32,
     variables: u32,
     instrs: u32,
 }
@@ -21,21 +25,20 @@ impl<'a> Model for Reached<'a> {
 
     ghost Value = { rules.Reached };
 
-    ghost view = { λ r. record { before = r.before; variables = r.variables; instrs = r.instrs } };
+    ghost view = { λ r. record { before = r.before; block = r.block; variables = r.variables; instrs = r.instrs } };
 }
 
 impl<'a> Reached<'a> {
-    /// The place before the first instruction of a block.
-    pub fn at_start(alloc: Global, block: &RawBlock<'a>) -> Result<Reached<'a>, AllocError>
-        ensures { IfOk result (λ reached. reached ≡ at_start block.now) }
+    /// The place before the first block, behind parameters that mean this.
+    pub fn behind(before: Definitions<'a>) -> Reached<'a>
+        ensures { result ≡ record { before = before.entry; block = 0; variables = 0; instrs = 0 } }
     {
-        let mut before = Definitions::new(alloc);
-        before.define(&block.label, Meaning::Block)?;
-        Ok(Reached {
+        Reached {
             before,
+            block: 0,
             variables: 0,
             instrs: 0,
-        })
+        }
     }
 
     /// What the names before the place mean.
@@ -45,11 +48,14 @@ impl<'a> Reached<'a> {
         &self.before
     }
 
-    /// How many instructions stand before the place, allocas left out.
-    pub fn instrs(&self) -> u32
-        ensures { result ≡ self.now.instrs }
+    /// The place.
+    pub fn here(&self) -> Here
+        ensures { result ≡ here self.now }
     {
-        self.instrs
+        Here {
+            block: self.block,
+            instr: self.instrs,
+        }
     }
 
     /// The definitions alone.
@@ -60,13 +66,21 @@ impl<'a> Reached<'a> {
         before
     }
 
-    fn result_meaning(&self, kind: &RawKind<'a>) -> Option<Meaning>
-        ensures { result ≡ result_meaning self.now kind.now }
+    fn register(&self, ty: Option<Ty>) -> Option<Meaning>
+        ensures { result ≡ register self.now ty }
+    {
+        match ty {
+            Some(ty) => Some(Meaning::Register(self.block, self.instrs, ty)),
+            None => None,
+        }
+    }
+
+    fn result_meaning(&self, named: bool, kind: &RawKind<'a>) -> Option<Meaning>
+        ensures { result ≡ result_meaning self.now named kind.now }
     {
         match kind {
-            RawKind::Alloca(_) => Some(Meaning::Variable(self.variables)),
-            RawKind::Store(_, _, _) => None,
-            _ => Some(Meaning::Register(self.instrs)),
+            RawKind::Alloca(width) => Some(Meaning::Variable(self.variables, *width)),
+            _ => self.register(result_type(named, kind)),
         }
     }
 
@@ -75,15 +89,50 @@ impl<'a> Reached<'a> {
         requires few { self.old.variables + self.old.instrs + 1 < 2 ^ 32 }
         ensures { OnOk result (self.new ≡ after_instr self.old instr.now) }
     {
-        if let Some(meaning) = self.result_meaning(&instr.kind) {
-            self.before.define(&instr.result, meaning)?;
-        }
+        let meaning = self.result_meaning(instr.result.is_some(), &instr.kind);
+        self.before.define_some(&instr.result, meaning)?;
         if is_alloca(&instr.kind) {
             self.variables += 1;
         } else {
             self.instrs += 1;
         }
         Ok(())
+    }
+
+    /// Goes behind the label of a block.
+    pub fn enter(&mut self, block: &RawBlock<'a>) -> Result<(), AllocError>
+        ensures { OnOk result (self.new ≡ at_block self.old block.now) }
+    {
+        self.before
+            .define(&block.label, Meaning::Block(self.block))?;
+        self.instrs = 0;
+        Ok(())
+    }
+
+    /// Goes from behind the instructions of a block before the next block.
+    pub fn leave(&mut self)
+        requires few { self.old.block + 1 < 2 ^ 32 }
+        ensures { self.new ≡ next_block self.old }
+    {
+        self.block += 1;
+        self.instrs = 0;
+    }
+}
+
+/// The type of what an instruction gives, or of what its written name stands for.
+fn result_type(named: bool, kind: &RawKind<'_>) -> Option<Ty>
+    ensures { result ≡ result_type named kind.now }
+{
+    match kind {
+        RawKind::Alloca(_) | RawKind::Store(_, _, _) => None,
+        RawKind::Icmp(_, _, _, _) => Some(Ty::Int(Width::I1)),
+        RawKind::Load(width, _)
+        | RawKind::Bin(_, width, _, _)
+        | RawKind::Select(_, width, _, _, _)
+        | RawKind::Phi(width, _) => Some(Ty::Int(*width)),
+        RawKind::Cast(_, _, _, to) => Some(Ty::Int(to.item)),
+        RawKind::Call(Ty::Int(width), _, _) => Some(Ty::Int(*width)),
+        RawKind::Call(_, _, _) => { if named { Some(Ty::Void) } else { None } }
     }
 }
 

@@ -1,11 +1,12 @@
-use Rattle.ir_check.proofs.Admitted.{parts_sound, whole_sound}
+use Rattle.ir_check.proofs.Last.{limits_kept, parts_keep}
 use Rattle.ir_check.proofs.checking.check.Goals as goal
 
-pub new-requires-2 : goal.new-requires-2
-new-requires-2 c = parts_sound c.args.raw.now c.new.result c.in_ok-functions.functions c.requires.named c.in_ok-functions.ensures.problem c.new.ensures c.in_ok-functions.ensures.functions
-
-pub returns-clause-first : goal.returns-clause-first
-returns-clause-first c = (whole_sound c.args.raw.now c.new-2.result c.new.result c.in_ok-functions.functions c.requires.named c.in_ok-functions.ensures.problem c.new-2.ensures c.new.ensures c.in_ok-functions.ensures.functions).first
+pub new-requires : goal.new-requires
+new-requires c =
+    let admitted = c.checked_trees.ensures c.args.raw.now c.requires.spelled c.requires.few c.in_ok-globals.ensures.problem in
+    parts_keep c.args.raw.now c.in_ok-globals.field-0.globals c.in_ok-globals.field-0.functions admitted.well_formed c.in_ok-globals.ensures.globals c.in_ok-globals.ensures.functions
 
 pub returns-clause-limits : goal.returns-clause-limits
-returns-clause-limits c = (whole_sound c.args.raw.now c.new-2.result c.new.result c.in_ok-functions.functions c.requires.named c.in_ok-functions.ensures.problem c.new-2.ensures c.new.ensures c.in_ok-functions.ensures.functions).limits
+returns-clause-limits c =
+    let admitted = c.checked_trees.ensures c.args.raw.now c.requires.spelled c.requires.few c.in_ok-globals.ensures.problem in
+    limits_kept c.args.raw.now c.in_ok-globals.field-0.globals c.in_ok-globals.field-0.functions c.new.result admitted.limits c.in_ok-globals.ensures.functions c.new.ensures

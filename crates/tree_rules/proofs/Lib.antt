@@ -1,0 +1,13 @@
+mod Blocks
+mod Bodies
+mod Cases
+mod Counts
+mod Distinct
+mod Fitting
+mod Functions
+mod Known
+mod Names
+mod Sorts
+mod Symbols
+mod Uses
+mod Whole
