@@ -1,9 +1,10 @@
 //! The trees that lists of tokens spell.
 #![tactic(auto)]
 
-mod parsing;
-mod reading;
+mod calls;
+mod instrs;
+mod modules;
+mod terms;
 mod tokens;
+mod values;
 mod words;
-
-pub use parsing::{ParseError, one_reading, parse, spelled_trees};

@@ -74,6 +74,13 @@ fn behind_sigil<'a>(text: &'a [u8]) -> &'a [u8]
     }
 }
 
+/// Whether only digits stand behind the sign.
+pub fn is_numbered(text: &[u8]) -> bool
+    ensures { result ≡ list_all is_digit (drop 1 text.now) }
+{
+    are_digits(behind_sigil(text))
+}
+
 /// The name of a local.
 pub fn local_name<'a>(text: &'a [u8]) -> Name<'a>
     ensures { result ≡ local_name text.now }
