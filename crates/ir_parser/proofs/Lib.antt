@@ -1,3 +1,5 @@
 pub mod Numbers
-pub mod Yields
 pub mod Whole
+pub mod Loops
+pub mod Begins
+pub mod Places

@@ -46,7 +46,7 @@ unfoldable pub predicate : G (At Pred)
 predicate = one_from preds pred.Eq
 
 unfoldable pub castop : G (At Cast)
-castop = one_from casts cast.Zext
+castop = one_from casts cast.Bitcast
 
 unfoldable pub flags : G (Unit {0})
 flags = any_of flag_words

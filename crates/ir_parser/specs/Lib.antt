@@ -7,3 +7,4 @@ pub mod Terms
 pub mod Module
 pub mod Reader
 pub mod Size
+pub mod Profile

@@ -4,7 +4,7 @@ ghost use Rattle.std.specs.Prelude.{◌≡◌, Ok, drop, map};
 ghost use Rattle.grammar.specs.Grammar.{is_next};
 ghost use Rattle.grammar.specs.Reading.{read};
 ghost use Rattle.ir_lexer.specs.Lexeme.{lexeme};
-ghost use Rattle.ir_parser.specs.Calls.{call_words, arg, next_arg, some_args, args, call_word, callee, call, brackets_next, incoming, next_incoming, incomings, phi};
+ghost use Rattle.ir_parser.specs.Calls.{call_words, arg, next_arg, some_args, args, call_word, call, brackets_next, incoming, next_incoming, incomings, phi};
 ghost use Rattle.ir_parser.specs.Reader.{Gives, GivesOrMemory, GivesToken, Passes};
 
 use crate::tokens::{
@@ -20,14 +20,14 @@ use ir_types::span::{At, Span};
 use ir_types::tree::{RawArg, RawKind, RawValue, Ty};
 use std::alloc::Global;
 
-#[tactic(auto, unfolding(crate::specs::Calls::arg))]
+#[tactic(auto, unfolding(crate::specs::Calls::arg, crate::specs::Values::int_type))]
 fn is_arg_next(tokens: &[Token], at: usize) -> bool
     ensures { result ≡ is_next arg (map lexeme (drop at tokens.now)) }
 {
     is_type_next(tokens, at) || is_word_next(tokens, at, b"ptr")
 }
 
-#[tactic(auto, unfolding(crate::specs::Calls::arg))]
+#[tactic(auto, unfolding(crate::specs::Calls::arg, crate::specs::Values::int_type))]
 fn arg<'a>(tokens: &[Token<'a>], at: usize) -> Result<(RawArg<'a>, usize), Stop>
     ensures { Gives tokens.now result (read arg (map lexeme (drop at tokens.now))) }
 {
@@ -82,7 +82,7 @@ fn some_args<'a>(
     Ok((args, next))
 }
 
-#[tactic(auto, unfolding(crate::specs::Calls::some_args))]
+#[tactic(auto, unfolding(crate::specs::Calls::some_args, crate::specs::Calls::arg, crate::specs::Values::int_type))]
 fn are_args_next(tokens: &[Token], at: usize) -> bool
     ensures { result ≡ is_next some_args (map lexeme (drop at tokens.now)) }
 {
@@ -168,6 +168,7 @@ fn incoming<'a>(
 }
 
 /// Whether a bracket stands behind the next token.
+#[tactic(auto, using(crate::proofs::Places::behind_next))]
 fn brackets_next(tokens: &[Token], at: usize) -> bool
     ensures { result ≡ brackets_next (map lexeme (drop at tokens.now)) }
 {

@@ -5,7 +5,7 @@ ghost use Rattle.grammar.specs.Grammar.{is_next};
 ghost use Rattle.grammar.specs.Reading.{read};
 ghost use Rattle.mc_num.specs.declared.op.Bin.TheVariants.{Add};
 ghost use Rattle.mc_num.specs.declared.op.Pred.TheVariants.{Eq};
-ghost use Rattle.mc_num.specs.declared.op.Cast.TheVariants.{Zext};
+ghost use Rattle.mc_num.specs.declared.op.Cast.TheVariants.{Bitcast};
 ghost use Rattle.ir_lexer.specs.Lexeme.{lexeme};
 ghost use Rattle.ir_parser.specs.Tokens.{meaning};
 ghost use Rattle.ir_parser.specs.Instrs.{bins, preds, casts, binop, predicate, castop, flags, alloca, load, binary, compare, convert, select, computing, giving, store, result_name, giving_instr, storing_instr, bare_instr, instr, instrs};
@@ -74,13 +74,13 @@ fn pred_of(text: &[u8]) -> Pred
 }
 
 fn cast_of(text: &[u8]) -> Cast
-    ensures { result ≡ meaning casts Zext text.now }
+    ensures { result ≡ meaning casts Bitcast text.now }
 {
     match text {
+        b"zext" => Cast::Zext,
         b"sext" => Cast::Sext,
         b"trunc" => Cast::Trunc,
-        b"bitcast" => Cast::Bitcast,
-        _ => Cast::Zext,
+        _ => Cast::Bitcast,
     }
 }
 
@@ -243,7 +243,7 @@ fn store<'a>(tokens: &[Token<'a>], at: usize) -> Result<((Span, RawKind<'a>), us
 }
 
 /// An operation that gives a result and needs no memory.
-#[tactic(auto, unfolding(crate::specs::Instrs::computing, crate::specs::Instrs::binary, crate::specs::Instrs::compare, crate::specs::Instrs::convert))]
+#[tactic(auto, unfolding(crate::specs::Instrs::computing, crate::specs::Instrs::binary, crate::specs::Instrs::compare, crate::specs::Instrs::convert, crate::specs::Instrs::binop, crate::specs::Instrs::castop))]
 fn computing<'a>(tokens: &[Token<'a>], at: usize) -> Result<((Span, RawKind<'a>), usize), Stop>
     ensures { Gives tokens.now result (read computing (map lexeme (drop at tokens.now))) }
 {
@@ -259,7 +259,7 @@ fn computing<'a>(tokens: &[Token<'a>], at: usize) -> Result<((Span, RawKind<'a>)
     select(tokens, at)
 }
 
-#[tactic(auto, unfolding(crate::specs::Instrs::computing, crate::specs::Instrs::binary, crate::specs::Instrs::compare, crate::specs::Instrs::convert, crate::specs::Instrs::select))]
+#[tactic(auto, unfolding(crate::specs::Instrs::computing, crate::specs::Instrs::binary, crate::specs::Instrs::compare, crate::specs::Instrs::convert, crate::specs::Instrs::select, crate::specs::Instrs::binop, crate::specs::Instrs::castop))]
 fn is_computing_next(tokens: &[Token], at: usize) -> bool
     ensures { result ≡ is_next computing (map lexeme (drop at tokens.now)) }
 {
@@ -377,12 +377,19 @@ fn instr<'a>(
     Ok((instr, at))
 }
 
+#[tactic(auto, unfolding(crate::specs::Instrs::bare_instr, crate::specs::Instrs::storing_instr, crate::specs::Instrs::store))]
+fn is_bare_instr_next(tokens: &[Token], at: usize) -> bool
+    ensures { result ≡ is_next bare_instr (map lexeme (drop at tokens.now)) }
+{
+    is_giving_instr_next(tokens, at) || is_word_next(tokens, at, b"store")
+}
+
 /// Whether the next token begins an instruction.
-#[tactic(auto, unfolding(crate::specs::Instrs::instr, crate::specs::Instrs::bare_instr, crate::specs::Instrs::storing_instr, crate::specs::Instrs::store))]
+#[tactic(auto, using(crate::proofs::Begins::instr_begins))]
 pub fn is_instr_next(tokens: &[Token], at: usize) -> bool
     ensures { result ≡ is_next instr (map lexeme (drop at tokens.now)) }
 {
-    is_giving_instr_next(tokens, at) || is_word_next(tokens, at, b"store")
+    is_bare_instr_next(tokens, at)
 }
 
 /// The instructions up to where no further one begins.

@@ -86,7 +86,7 @@ fn some_pars<'a>(
     Ok((pars, next))
 }
 
-#[tactic(auto, unfolding(crate::specs::Module::some_pars, crate::specs::Module::par))]
+#[tactic(auto, unfolding(crate::specs::Module::some_pars, crate::specs::Module::par, crate::specs::Values::int_type))]
 fn are_pars_next(tokens: &[Token], at: usize) -> bool
     ensures { result ≡ is_next some_pars (map lexeme (drop at tokens.now)) }
 {
