@@ -3,3 +3,4 @@ pub mod Whole
 pub mod Loops
 pub mod Begins
 pub mod Places
+pub mod Members

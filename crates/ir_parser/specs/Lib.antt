@@ -8,3 +8,4 @@ pub mod Module
 pub mod Reader
 pub mod Size
 pub mod Profile
+pub mod Answers

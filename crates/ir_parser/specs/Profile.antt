@@ -45,11 +45,14 @@ top_words =
     ∷ codes "external" ∷ codes "extern_weak" ∷ codes "externally_initialized" ∷ codes "thread_local"
     ∷ codes "addrspace" ∷ codes "alias" ∷ codes "ifunc" ∷ []
 
+abbrev pub int_words : List (List ℕ)
+int_words = codes "i1" ∷ codes "i8" ∷ codes "i16" ∷ codes "i32" ∷ codes "i64" ∷ []
+
 -- `i` and digits, and none of the five types
 abbrev pub is_other_width : List ℕ → Bool
 is_other_width text =
     heads (λ b. b == 105) text && not (length (drop 1 text) == 0) && list_all is_digit (drop 1 text)
-    && not (is_in (codes "i1" ∷ codes "i8" ∷ codes "i16" ∷ codes "i32" ∷ codes "i64" ∷ []) text)
+    && not (is_in int_words text)
 
 abbrev pub is_closed_word : List ℕ → Bool
 is_closed_word text =

@@ -4,7 +4,11 @@
 mod calls;
 mod instrs;
 mod modules;
+mod parsing;
+mod profile;
 mod terms;
 mod tokens;
 mod values;
 mod words;
+
+pub use parsing::{ParseError, one_reading, parse};

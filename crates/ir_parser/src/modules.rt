@@ -1,11 +1,11 @@
 //! Whole texts.
 
-ghost use Rattle.std.specs.Prelude.{◌≡◌, Ok, drop, map};
+ghost use Rattle.std.specs.Prelude.{◌≡◌, [], ◌∷◌, ◌++◌, Ok, OnOk, drop, map};
 ghost use Rattle.grammar.specs.Grammar.{is_next, optional};
 ghost use Rattle.grammar.specs.Reading.{read};
 ghost use Rattle.ir_lexer.specs.Lexeme.{lexeme};
 ghost use Rattle.ir_parser.specs.Tokens.{local};
-ghost use Rattle.ir_parser.specs.Module.{par, next_par, some_pars, pars, signature, declare, define, variable, part, module_text};
+ghost use Rattle.ir_parser.specs.Module.{par, next_par, some_pars, pars, signature, declare, define, variable, part, functions_of, globals_of, module_text};
 ghost use Rattle.ir_parser.specs.Reader.{Gives, GivesOrMemory};
 
 use crate::terms::blocks;
@@ -21,7 +21,7 @@ use ir_types::items::Items;
 use ir_types::name::{Name, Spelling};
 use ir_types::span::At;
 use ir_types::tree::{Raw, RawFunction, RawGlobal, RawParam, Ty};
-use std::alloc::Global;
+use std::alloc::{AllocError, Global};
 
 /// A function or a global.
 #[derive(Debug, Drop)]
@@ -216,6 +216,21 @@ fn is_part_next(tokens: &[Token], at: usize) -> bool
         || is_global_next(tokens, at)
 }
 
+/// Adds a part at the end of its list.
+fn put_part<'a>(
+    part: Member<'a>,
+    functions: &mut Items<RawFunction<'a>>,
+    globals: &mut Items<RawGlobal<'a>>,
+) -> Result<(), AllocError>
+    ensures functions { OnOk result (functions.new ≡ functions.old ++ functions_of (part.entry ∷ [])) }
+    ensures globals { OnOk result (globals.new ≡ globals.old ++ globals_of (part.entry ∷ [])) }
+{
+    match part {
+        Member::Function(function) => functions.push(function),
+        Member::Global(global) => globals.push(global),
+    }
+}
+
 /// A whole text.
 #[tactic(auto, unfolding(crate::specs::Module::module_text))]
 pub fn module_text<'a>(
@@ -230,10 +245,7 @@ pub fn module_text<'a>(
     let mut next = at;
     while is_part_next(tokens, next) {
         let (part, after) = part(alloc, tokens, next)?;
-        match part {
-            Member::Function(function) => functions.push(function)?,
-            Member::Global(global) => globals.push(global)?,
-        }
+        put_part(part, &mut functions, &mut globals)?;
         next = after;
     }
     Ok((Raw { functions, globals }, next))

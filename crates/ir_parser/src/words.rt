@@ -49,7 +49,8 @@ fn number_of_name(digits: &[u8]) -> u32
     u32::try_from(number(digits)).unwrap_or(u32::MAX)
 }
 
-fn are_digits(bytes: &[u8]) -> bool
+/// Whether each byte is a digit.
+pub fn are_digits(bytes: &[u8]) -> bool
     ensures { result ≡ list_all is_digit bytes.now }
 {
     bytes.iter().all(|b| is_digit(*b))
