@@ -4,3 +4,5 @@ pub mod Loops
 pub mod Begins
 pub mod Places
 pub mod Members
+pub mod Probes
+pub mod Refused
