@@ -1,5 +1,5 @@
 -- Texts that grow at their ends.
-use Rattle.std.proofs.Common.{◌≡◌, ℕ, ◌+◌, ◌<◌, ◌≤◌, List, [], ◌∷◌, ◌++◌, Ok, Err, IsTrue, OnOk, append_assoc, length, take, get_or, ap, sym, ◌∙◌}
+use Rattle.std.proofs.Common.{◌≡◌, ℕ, ◌+◌, ◌<◌, ◌≤◌, List, [], ◌∷◌, ◌++◌, Ok, Err, IsTrue, OnOk, append_assoc, length, take, get_or, ap, sym, ◌∙◌, codes, refl}
 use Rattle.std.specs.declared.result.Result.{Result}
 use Rattle.std.specs.List.{flat_map}
 use Rattle.std.proofs.lemmas.List.{flat_map_more, take_more, take_all}
@@ -32,3 +32,14 @@ one_more text xs i x old before behind lt is e f =
 -- all of them
 pub all_done : {X : Type 0} (text : X → List ℕ) (xs ys : List X) (i : ℕ) (old before : List ℕ) → length ys ≤ i → ys ≡ xs → before ≡ old ++ flat_map text (take i ys) → before ≡ old ++ flat_map text xs
 all_done text xs ys i old before le same e = e ∙ ap (λ (l : List _). old ++ flat_map text l) (take_all i ys le ∙ same)
+
+-- six parts behind one another, of which the second to fourth are a whole of their own
+pub in_six : (old one two three four five six w1 w2 w3 w4 w5 : List ℕ) → w1 ≡ old ++ one → w2 ≡ w1 ++ two → w3 ≡ w2 ++ three → w4 ≡ w3 ++ four → w5 ≡ w4 ++ five
+    → w5 ++ six ≡ old ++ (one ++ (two ++ (three ++ (four ++ (five ++ six)))))
+in_six old one two three four five six w1 w2 w3 w4 w5 a b c d e = step w4 w5 five six e ∙ step w3 w4 four _ d ∙ step w2 w3 three _ c ∙ step w1 w2 two _ b ∙ step old w1 one _ a
+
+-- the head of a definition with its parameters, and what follows
+pub regrouped_head : (type name params blocks : List ℕ) →
+    (type ++ (codes " " ++ (name ++ codes "("))) ++ (params ++ (codes ") {\n" ++ (blocks ++ codes "}\n")))
+    ≡ (type ++ (codes " " ++ (name ++ (codes "(" ++ (params ++ codes ")"))))) ++ (codes " {\n" ++ (blocks ++ codes "}\n"))
+regrouped_head type name params blocks = simp append_assoc refl

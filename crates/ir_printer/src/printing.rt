@@ -1,220 +1,151 @@
 //! The canonical text of a module.
-ghost use Rattle.std.specs.Prelude.{◌≡◌, ◌++◌, [], ◌∷◌, IfOk, OnOk, Some};
+ghost use Rattle.std.specs.Prelude.{◌≡◌, ◌++◌, codes, map, not, IfOk, OnOk};
 ghost use Rattle.std.specs.List.{flat_map};
-ghost use Rattle.ir_types.specs.FirstForm.{IsFirstModule, IsFirstMain};
-ghost use Rattle.ir_types.specs.TreeOf.{signed};
-ghost use Rattle.ir_printer.specs.Text.{local_text, variable_text, value_text, result_text, operands_text, kind_text, alloca_line, instr_line, term_line, main_text, text_of};
-ghost use Rattle.mc_num.specs.declared.op.Width.TheVariants.{I32};
-ghost use Rattle.ir_types.specs.declared.syntax.Operand.TheVariants.{Reg};
+ghost use Rattle.ir_types.specs.Rules.{is_nil};
+ghost use Rattle.ir_printer.specs.Text.{listed, separated, type_of_param, param_text, type_text, global_text, head_text, blocks_text, function_text, global_line, text_of};
 
+use crate::blocks::put_blocks;
 use crate::growing::Text;
-use crate::spelling::name_to;
+use crate::instrs::put_separator;
+use crate::values::{put_constant, put_global, put_local};
+use crate::words::{type_text, width_text};
 use ir_types::module::Module;
 use ir_types::name::Name;
-use ir_types::syntax::{Block, Function, Instr, Kind, Operand, Terminator, Variable};
-use itoa::Buffer;
+use ir_types::syntax;
+use ir_types::syntax::{Block, Function};
 use mc_host::{Failed, Sink};
-use mc_num::NoMemory;
+use mc_num::{NoMemory, Width};
 use std::alloc::Global;
 
-fn put_local(out: &mut Text, name: &Name<'_>) -> Result<(), Failed>
-    ensures { OnOk result (out.new.written ≡ out.old.written ++ local_text name.now) }
+/// The parameters of a declaration: their types.
+fn put_types(out: &mut Text, params: &[(Width, Name<'_>)]) -> Result<(), Failed>
+    ensures { OnOk result (out.new.written ≡ out.old.written ++ listed (map type_of_param params.now)) }
 {
-    out.put(b"%")?;
-    name_to(name, out)
-}
-
-fn put_variable(out: &mut Text, function: &Function<'_>, variable: Variable) -> Result<(), Failed>
-    ensures { OnOk result (out.new.written ≡ out.old.written ++ variable_text function.now variable) }
-{
-    match variable {
-        Variable::Local(index) => match function.vars.get(index as usize) {
-            Some((_, name)) => put_local(out, name),
-            None => Ok(()),
-        },
-        Variable::Global(_) => Ok(()),
+    for index in 0..params.len() {
+        put_separator(out, index == 0, b", ")?;
+        out.put(width_text(params[index].0))?;
     }
+    Ok(())
 }
 
-/// The value of 32 bits with a sign.
-fn signed(value: u64) -> i64
-    ensures { result ≡ signed I32 value }
+fn put_param(out: &mut Text, param: &(Width, Name<'_>)) -> Result<(), Failed>
+    ensures { OnOk result (out.new.written ≡ out.old.written ++ param_text param.now) }
 {
-    if value < 0x8000_0000 {
-        return value as i64;
-    }
-    -1 - 0xffff_ffff_u64.saturating_sub(value) as i64
+    out.put(width_text(param.0))?;
+    out.put(b" ")?;
+    put_local(out, &param.1)
 }
 
-fn put_register(out: &mut Text, block: &Block<'_>, index: u32) -> Result<(), Failed>
-    ensures { OnOk result (out.new.written ≡ out.old.written ++ value_text block.now (Reg index)) }
+/// The parameters of a definition.
+fn put_params(out: &mut Text, params: &[(Width, Name<'_>)]) -> Result<(), Failed>
+    ensures { OnOk result (out.new.written ≡ out.old.written ++ listed (map param_text params.now)) }
 {
-    match block.instrs.get(index as usize) {
-        Some(instr) => match &instr.result {
-            Some(name) => put_local(out, name),
-            None => Ok(()),
-        },
-        None => Ok(()),
+    for index in 0..params.len() {
+        put_separator(out, index == 0, b", ")?;
+        put_param(out, &params[index])?;
     }
+    Ok(())
 }
 
-fn put_value(out: &mut Text, block: &Block<'_>, value: Operand) -> Result<(), Failed>
-    ensures { OnOk result (out.new.written ≡ out.old.written ++ value_text block.now value) }
+/// What a function gives, its name, and the parenthesis before its parameters.
+fn put_head(out: &mut Text, function: &Function<'_>) -> Result<(), Failed>
+    ensures { OnOk result (out.new.written ≡ out.old.written ++ (type_text function.now.ret ++ (codes " " ++ (global_text function.now.name ++ codes "(")))) }
 {
-    match value {
-        Operand::Const(number) => {
-            let mut digits = Buffer::new();
-            out.put(digits.format(signed(number)).as_bytes())
-        }
-        Operand::Reg(index) => put_register(out, block, index),
-        Operand::Param(_) => Ok(()),
-    }
+    out.put(type_text(function.ret))?;
+    out.put(b" ")?;
+    put_global(out, &function.name)?;
+    out.put(b"(")
 }
 
-fn put_result(out: &mut Text, result_name: &Option<Name<'_>>) -> Result<(), Failed>
-    ensures { OnOk result (out.new.written ≡ out.old.written ++ result_text result_name.now) }
+fn put_declaration(out: &mut Text, function: &Function<'_>) -> Result<(), Failed>
+    ensures { OnOk result (out.new.written ≡ out.old.written ++ (codes "declare " ++ (head_text function.now (map type_of_param function.now.params) ++ codes "\n"))) }
 {
-    match result_name {
-        Some(name) => {
-            put_local(out, name)?;
-            out.put(b" = ")
-        }
-        None => Ok(()),
-    }
+    out.put(b"declare ")?;
+    put_head(out, function)?;
+    put_types(out, function.params.as_slice())?;
+    out.put(b")\n")
 }
 
-fn put_operands(out: &mut Text, block: &Block<'_>, operands: &[Operand]) -> Result<(), Failed>
-    ensures { OnOk result (out.new.written ≡ out.old.written ++ operands_text block.now operands.now) }
-{
-    match operands {
-        [one, other] => {
-            put_value(out, block, *one)?;
-            out.put(b", ")?;
-            put_value(out, block, *other)
-        }
-        _ => Ok(()),
-    }
-}
-
-fn put_kind(
+fn put_definition(
     out: &mut Text,
+    program: &Module<'_>,
     function: &Function<'_>,
-    block: &Block<'_>,
-    kind: &Kind,
 ) -> Result<(), Failed>
-    ensures { OnOk result (out.new.written ≡ out.old.written ++ kind_text function.now block.now kind.now) }
+    ensures { OnOk result (out.new.written ≡ out.old.written ++ (codes "define " ++ (head_text function.now (map param_text function.now.params) ++ (codes " {\n" ++ (blocks_text program.now function.now function.now.blocks ++ codes "}\n"))))) }
 {
-    match kind {
-        Kind::Load(variable) => {
-            out.put(b"load i32, ptr ")?;
-            put_variable(out, function, *variable)
-        }
-        Kind::Store(value, variable) => {
-            out.put(b"store i32 ")?;
-            put_value(out, block, *value)?;
-            out.put(b", ptr ")?;
-            put_variable(out, function, *variable)
-        }
-        Kind::Compute(_, operands) => {
-            out.put(b"add i32 ")?;
-            put_operands(out, block, operands.as_slice())
-        }
-        Kind::Call(_, _) => Ok(()),
-    }
-}
-
-fn put_instr(
-    out: &mut Text,
-    function: &Function<'_>,
-    block: &Block<'_>,
-    instr: &Instr<'_>,
-) -> Result<(), Failed>
-    ensures { OnOk result (out.new.written ≡ out.old.written ++ instr_line function.now block.now instr.now) }
-{
-    out.put(b"  ")?;
-    put_result(out, &instr.result)?;
-    put_kind(out, function, block, &instr.kind)?;
-    out.put(b"\n")
-}
-
-fn put_alloca(out: &mut Text, name: &Name<'_>) -> Result<(), Failed>
-    ensures { OnOk result (out.new.written ≡ out.old.written ++ alloca_line name.now) }
-{
-    out.put(b"  ")?;
-    put_local(out, name)?;
-    out.put(b" = alloca i32\n")
-}
-
-fn put_term(out: &mut Text, block: &Block<'_>) -> Result<(), Failed>
-    ensures { OnOk result (out.new.written ≡ out.old.written ++ term_line block.now block.now.term) }
-{
-    if let Terminator::Return(value) = &block.term {
-        if let Some(value) = value {
-            out.put(b"  ret i32 ")?;
-            put_value(out, block, *value)?;
-            return out.put(b"\n");
-        }
-    }
-    Ok(())
-}
-
-fn put_allocas(out: &mut Text, function: &Function<'_>) -> Result<(), Failed>
-    ensures { OnOk result (out.new.written ≡ out.old.written ++ flat_map (λ x. alloca_line x.1) function.now.vars) }
-{
-    for variable in function.vars.as_slice() {
-        put_alloca(out, &variable.1)?;
-    }
-    Ok(())
-}
-
-fn put_instrs(out: &mut Text, function: &Function<'_>, block: &Block<'_>) -> Result<(), Failed>
-    ensures { OnOk result (out.new.written ≡ out.old.written ++ flat_map (instr_line function.now block.now) block.now.instrs) }
-{
-    for instr in block.instrs.as_slice() {
-        put_instr(out, function, block, instr)?;
-    }
-    Ok(())
-}
-
-fn put_main(out: &mut Text, function: &Function<'_>, block: &Block<'_>) -> Result<(), Failed>
-    ensures { OnOk result (out.new.written ≡ out.old.written ++ main_text function.now block.now) }
-{
-    out.put(b"define i32 @main() {\n")?;
-    name_to(&block.name, out)?;
-    out.put(b":\n")?;
-    put_allocas(out, function)?;
-    put_instrs(out, function, block)?;
-    put_term(out, block)?;
+    out.put(b"define ")?;
+    put_head(out, function)?;
+    put_params(out, function.params.as_slice())?;
+    out.put(b") {\n")?;
+    put_blocks(out, program, function, function.blocks.as_slice())?;
     out.put(b"}\n")
 }
 
-fn put_function(out: &mut Text, function: &Function<'_>) -> Result<(), Failed>
-    ensures { OnOk result (out.new.written ≡ out.old.written ++ flat_map (main_text function.now) function.now.blocks) }
+fn put_function(out: &mut Text, program: &Module<'_>, function: &Function<'_>) -> Result<(), Failed>
+    ensures { OnOk result (out.new.written ≡ out.old.written ++ function_text program.now function.now) }
 {
-    for block in function.blocks.as_slice() {
-        put_main(out, function, block)?;
+    if function.blocks.as_slice().is_empty() {
+        return put_declaration(out, function);
+    }
+    put_definition(out, program, function)
+}
+
+fn put_global_line(out: &mut Text, global: &syntax::Global<'_>) -> Result<(), Failed>
+    ensures { OnOk result (out.new.written ≡ out.old.written ++ global_line global.now) }
+{
+    put_global(out, &global.name)?;
+    out.put(b" = global ")?;
+    out.put(width_text(global.width))?;
+    out.put(b" ")?;
+    put_constant(out, global.width, global.value)?;
+    out.put(b"\n")
+}
+
+fn put_globals(out: &mut Text, globals: &[syntax::Global<'_>]) -> Result<(), Failed>
+    ensures { OnOk result (out.new.written ≡ out.old.written ++ flat_map global_line globals.now) }
+{
+    for global in globals {
+        put_global_line(out, global)?;
     }
     Ok(())
 }
 
-fn put_functions(out: &mut Text, functions: &[Function<'_>]) -> Result<(), Failed>
-    ensures { OnOk result (out.new.written ≡ out.old.written ++ flat_map (λ f. flat_map (main_text f) f.blocks) functions.now) }
+/// The functions, each behind an empty line unless it is the very first.
+fn put_functions(
+    out: &mut Text,
+    program: &Module<'_>,
+    has_globals: bool,
+    functions: &[Function<'_>],
+) -> Result<(), Failed>
+    ensures { OnOk result (out.new.written ≡ out.old.written ++ separated (codes "\n") (not has_globals) (map (function_text program.now) functions.now)) }
 {
-    for function in functions {
-        put_function(out, function)?;
+    for index in 0..functions.len() {
+        put_separator(out, !has_globals && index == 0, b"\n")?;
+        put_function(out, program, &functions[index])?;
     }
     Ok(())
 }
 
-/// The canonical text of a module of the first form. Every line ends with a line feed.
+fn put_module(out: &mut Text, program: &Module<'_>) -> Result<(), Failed>
+    ensures { OnOk result (out.new.written ≡ out.old.written ++ text_of program.now) }
+{
+    put_globals(out, program.globals())?;
+    put_functions(
+        out,
+        program,
+        !program.globals().is_empty(),
+        program.functions(),
+    )
+}
+
+/// The canonical text of a module: globals, declarations and definitions, each line ended by a line feed.
 ///
 /// `NoMemory` where an allocation was refused.
 pub fn print(alloc: Global, program: &Module<'_>) -> Result<Vec<u8>, NoMemory>
-    requires { IsFirstModule program.now }
     ensures { IfOk result (λ text. text.items ≡ text_of program.now) }
 {
     let mut out = Text::new(alloc);
-    match put_functions(&mut out, program.functions()) {
+    match put_module(&mut out, program) {
         Ok(()) => Ok(out.into_bytes()),
         Err(Failed) => Err(NoMemory),
     }

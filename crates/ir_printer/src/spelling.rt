@@ -8,7 +8,8 @@ use ir_types::name::{Made, Name};
 use itoa::Buffer;
 use mc_host::{Failed, Sink, put_all};
 
-fn text_to<S: Sink>(bytes: &[u8], sink: &mut S) -> Result<(), Failed>
+/// Puts a text, between quotes where it is no plain name.
+pub(crate) fn text_to<S: Sink>(bytes: &[u8], sink: &mut S) -> Result<(), Failed>
     ensures { Puts (quoted_text bytes.now) result (S.state sink.old) (S.state sink.new) }
 {
     if is_plain_name(bytes) {
@@ -55,7 +56,12 @@ fn made_to<S: Sink>(prefix: &str, made: Made, sink: &mut S) -> Result<(), Failed
         ),
         Made::Split { p } => put_all(
             sink,
-            &[b"pre", prefix.as_bytes(), b".b", first.format(p).as_bytes()],
+            &[
+                b"pre",
+                prefix.as_bytes(),
+                b".b.",
+                first.format(p).as_bytes(),
+            ],
         ),
     }
 }

@@ -23,10 +23,10 @@ fn spells_names(rt: HostRuntime) -> Result<(), Fail> {
             Name::Made(2, Made::Operand { x: 1, p: 5, i: 0 }),
             b"pre2.1.5.0",
         ),
-        (Name::Made(0, Made::Split { p: 6 }), b"pre.b6"),
+        (Name::Made(0, Made::Split { p: 6 }), b"pre.b.6"),
         (
             Name::Made(4_294_967_295, Made::Split { p: 6 }),
-            b"pre4294967295.b6",
+            b"pre4294967295.b.6",
         ),
     ];
     for (name, want) in rows {

@@ -1,9 +1,16 @@
 pub mod Bytes
-pub mod FirstForm
+pub mod Definitions
+pub mod Limits
+pub mod Literals
 pub mod ModuleOf
 pub mod Names
+pub mod Order
+pub mod Problems
 pub mod Program
 pub mod Rules
+pub mod Same
+pub mod Size
 pub mod TreeOf
+pub mod Uses
 pub mod WellFormed
 pub mod Written

@@ -17,7 +17,7 @@ abbrev pub parts : Made → List ℕ
 parts (Temp x) = decimal x
 parts (Sum x p) = decimal x ++ codes "." ++ decimal p
 parts (Operand x p i) = decimal x ++ codes "." ++ decimal p ++ codes "." ++ decimal i
-parts (Split p) = codes "b" ++ decimal p
+parts (Split p) = codes "b." ++ decimal p
 
 -- a name as it is spelled, where a made name is a text; two names are the same where they are spelled the same
 abbrev pub spelled : Name → Name

@@ -1,176 +1,75 @@
--- What is wrong with the tree of a text of the first form: the first broken rule in text order.
-use Rattle.std.specs.Prelude.{ℕ, ℤ, pos, negsuc, ◌+◌, ◌-◌, ◌^◌, ◌==◌, ◌&&◌, ◌||◌, min, nat_lt, nat_le, not, Bool, true, false, List, [], ◌∷◌, ◌++◌, Option, Some, None, is_some, if◌then◌else◌, count_by, codes}
-use Rattle.std.specs.Map.{lookup}
+-- What is wrong with a tree: the first broken rule in text order, and at one place the one with the smallest number.
+use Rattle.std.specs.Prelude.{ℕ, ◌+◌, ◌==◌, ◌&&◌, ◌||◌, not, Bool, true, false, List, [], ◌∷◌, length, Option, Some, None, is_some, if◌then◌else◌, codes}
 use Rattle.std.specs.Str.{bytes_eq}
-use Rattle.mc_num.specs.Op.{bits}
 use Rattle.mc_num.specs.declared.op.Width.{Width}
-use Rattle.mc_num.specs.declared.op.Width.TheVariants.{I1, I8, I16, I32, I64}
-use Rattle.mc_num.specs.declared.op.Bin.{Bin}
-use Rattle.mc_num.specs.declared.op.Bin.TheVariants.{Add}
+use Rattle.mc_num.specs.declared.op.Width.TheVariants.{I1, I32}
 use Rattle.ir_types.specs.declared.span.At.{At}
 use Rattle.ir_types.specs.declared.span.Span.{Span}
 use Rattle.ir_types.specs.declared.name.Name.{Name}
-use Rattle.ir_types.specs.declared.name.Name.TheVariants.{Text, Number, Made}
-use Rattle.ir_types.specs.contracts.name.NamePartialEq.TheImpl.{eq-value}
-use Rattle.ir_types.specs.declared.rules.Rule.{Rule}
 use Rattle.ir_types.specs.declared.rules.Rule.TheVariants as rule
 use Rattle.ir_types.specs.declared.rules.Problem.{Problem}
+use Rattle.ir_types.specs.declared.rules.Here.{Here}
 use Rattle.ir_types.specs.declared.rules.Meaning.{Meaning}
 use Rattle.ir_types.specs.declared.rules.Meaning.TheVariants as meaning
-use Rattle.ir_types.specs.declared.tree.Address.{Address}
-use Rattle.ir_types.specs.declared.tree.Address.TheVariants as address
-use Rattle.ir_types.specs.declared.tree.RawValue.{RawValue}
-use Rattle.ir_types.specs.declared.tree.RawValue.TheVariants as value
 use Rattle.ir_types.specs.declared.tree.RawKind.{RawKind}
-use Rattle.ir_types.specs.declared.tree.RawKind.TheVariants as kind
+use Rattle.ir_types.specs.declared.tree.RawKind.TheVariants.{Alloca, Load, Store, Bin, Icmp, Cast, Select, Call, Phi}
 use Rattle.ir_types.specs.declared.tree.RawInstr.{RawInstr}
 use Rattle.ir_types.specs.declared.tree.RawTerm.{RawTerm}
-use Rattle.ir_types.specs.declared.tree.RawTerm.TheVariants as term
+use Rattle.ir_types.specs.declared.tree.RawTerm.TheVariants.{Return, Jump, Branch, Switch, Unreachable}
 use Rattle.ir_types.specs.declared.tree.RawBlock.{RawBlock}
+use Rattle.ir_types.specs.declared.tree.RawParam.{RawParam}
 use Rattle.ir_types.specs.declared.tree.RawFunction.{RawFunction}
+use Rattle.ir_types.specs.declared.tree.RawGlobal.{RawGlobal}
 use Rattle.ir_types.specs.declared.tree.Raw.{Raw}
 use Rattle.ir_types.specs.declared.tree.Ty.{Ty}
-use Rattle.ir_types.specs.declared.tree.Ty.TheVariants as type
+use Rattle.ir_types.specs.declared.tree.Ty.TheVariants.{Int, Void, Ptr}
+use Rattle.ir_types.specs.Problems.{◌>>◌, broken}
+use Rattle.ir_types.specs.Definitions.{Defined, nothing, define, define_some, name_problem, symbol_name}
+use Rattle.ir_types.specs.Order.{Item, Global, Function, items_in_order}
+use Rattle.ir_types.specs.Limits.{is_alloca, is_above_limits}
+use Rattle.ir_types.specs.Uses.{Context, same_width, same_type, casts, value_problem, address_problem, label_problem, cases_problem, callee_problem, arguments_problem, params_of}
 
--- ---- problems, in order
+-- ---- what stands before a place
 
-infixr 30 ◌>>◌
--- the first problem of two parts, in this order
-abbrev pub ◌>>◌ : Option Problem → Option Problem → Option Problem
-(Some p) >> later = Some p
-None >> later = later
-
--- the problem that a rule is broken at a place, where it is
-abbrev pub broken : Rule → Span → Bool → Option Problem
-broken r s b = if b then Some (record { rule = r; span = s }) else None
-
--- ---- what names mean
-
-abbrev pub same_name : Name → Name → Bool
-same_name = eq-value.it
-
--- names with what they mean, in text order, and the next number
-pub record Defined : Type 0 where
-  pub meanings : List (Name × Meaning)
-  pub next : ℕ
-
-abbrev pub nothing : Defined
-nothing = record { meanings = []; next = 0 }
-
--- what a name means: the first definition holds
-abbrev pub meaning_of : Defined → Name → Option Meaning
-meaning_of d n = lookup (same_name n) d.meanings
-
-abbrev pub is_number : Name → Bool
-is_number (Text _) = false
-is_number (Number _) = true
-is_number (Made _ _) = false
-
--- a thing without a written name takes the next number
-abbrev pub name_of : Defined → Option (At Name) → Name
-name_of d None = Number d.next
-name_of d (Some written) = written.item
-
--- the things that the numbers count: those with a written number or no written name
-abbrev pub is_counted : Option (At Name) → Bool
-is_counted None = true
-is_counted (Some written) = is_number written.item
-
-abbrev pub with_meaning : List (Name × Meaning) → Name → Meaning → List (Name × Meaning)
-with_meaning ms n m = if is_some (lookup (same_name n) ms) then ms else (ms ++ (n, m) ∷ [])
-
--- one definition more; the next number stands still at the last
-abbrev pub define : Defined → Option (At Name) → Meaning → Defined
-define d written m = record {
-  meanings = with_meaning d.meanings (name_of d written) m;
-  next = if is_counted written then min (d.next + 1) (2 ^ 32 - 1) else d.next;
-}
-
--- a written number that isn't the next
-abbrev pub is_other_number : Defined → Name → Bool
-is_other_number before (Number n) = not (n == before.next)
-is_other_number before (Text _) = false
-is_other_number before (Made _ _) = false
-
--- the written name of a definition, after these
-abbrev pub name_problem : Defined → Option (At Name) → Option Problem
-name_problem before None = None
-name_problem before (Some n) =
-    broken rule.Duplicate n.span (is_some (meaning_of before n.item)) >> broken rule.BadNumber n.span (is_other_number before n.item)
-
--- ---- uses; `locals` is what the names of the whole function mean, `here` the number of the instruction that uses
-
--- nothing has the name, or it is a register that isn't given before
-abbrev pub is_undefined : ℕ → Option Meaning → Bool
-is_undefined here None = true
-is_undefined here (Some (meaning.Register i)) = nat_le here i
-is_undefined here (Some (meaning.Variable _)) = false
-is_undefined here (Some meaning.Block) = false
-
-abbrev pub is_no_value : Option Meaning → Bool
-is_no_value None = false
-is_no_value (Some (meaning.Register _)) = false
-is_no_value (Some (meaning.Variable _)) = true
-is_no_value (Some meaning.Block) = true
-
-abbrev pub is_no_variable : Option Meaning → Bool
-is_no_variable None = false
-is_no_variable (Some (meaning.Register _)) = true
-is_no_variable (Some (meaning.Variable _)) = false
-is_no_variable (Some meaning.Block) = true
-
--- a literal from -2^(w-1) to 2^w - 1
-abbrev pub is_in_range : Width → ℤ → Bool
-is_in_range w (pos n) = nat_lt n (2 ^ bits w)
-is_in_range w (negsuc n) = nat_lt n (2 ^ (bits w - 1))
-
-abbrev pub item_problem : Defined → ℕ → Width → Span → RawValue → Option Problem
-item_problem locals here w s (value.Local name) =
-    broken rule.Undefined s (is_undefined here (meaning_of locals name)) >> broken rule.BadType s (is_no_value (meaning_of locals name))
-item_problem locals here w s (value.Number n) = broken rule.ConstantRange s (not (is_in_range w n))
-item_problem locals here w s value.Wide = broken rule.ConstantRange s true
-item_problem locals here w s (value.Bool _) = broken rule.NotYet s true
-item_problem locals here w s value.Zero = broken rule.NotYet s true
-
--- a value where one of this width is due
-abbrev pub value_problem : Defined → ℕ → Width → At RawValue → Option Problem
-value_problem locals here w v = item_problem locals here w v.span v.item
-
-abbrev pub place_problem : Defined → ℕ → Span → Address → Option Problem
-place_problem locals here s (address.Local name) =
-    broken rule.Undefined s (is_undefined here (meaning_of locals name)) >> broken rule.BadType s (is_no_variable (meaning_of locals name))
-place_problem locals here s (address.Global _) = broken rule.NotYet s true
-
--- an address where a variable is due
-abbrev pub address_problem : Defined → ℕ → At Address → Option Problem
-address_problem locals here a = place_problem locals here a.span a.item
-
--- ---- the instructions of a block, in order
-
--- what stands before a place of a block: what its names mean, and how many variables and how many instructions
+-- what the names before a place of a function mean, in which block the place is, and how many variables of the
+-- function, and how many instructions of the block that are no allocas, stand before it
 pub record Reached : Type 0 where
   pub before : Defined
+  pub block : ℕ
   pub variables : ℕ
   pub instrs : ℕ
 
-abbrev pub is_alloca : RawKind → Bool
-is_alloca (kind.Alloca _) = true
-is_alloca _ = false
+abbrev pub here : Reached → Here
+here r = record { block = r.block; instr = r.instrs }
 
--- what the result of an instruction means, if it gives one
-abbrev pub result_meaning : Reached → RawKind → Option Meaning
-result_meaning r (kind.Alloca _) = Some (meaning.Variable r.variables)
-result_meaning r (kind.Store _ _ _) = None
-result_meaning r _ = Some (meaning.Register r.instrs)
+-- the type of what an instruction gives, or of what its written name stands for: a name before a call of a `void`
+-- function stands for a result of no type
+abbrev pub result_type : Bool → RawKind → Option Ty
+result_type named (Alloca _) = None
+result_type named (Load w _) = Some (Int w)
+result_type named (Store _ _ _) = None
+result_type named (Bin _ w _ _) = Some (Int w)
+result_type named (Icmp _ _ _ _) = Some (Int I1)
+result_type named (Cast _ _ _ to) = Some (Int to.item)
+result_type named (Select _ w _ _ _) = Some (Int w)
+result_type named (Call (Int w) _ _) = Some (Int w)
+result_type named (Call _ _ _) = if named then Some Void else None
+result_type named (Phi w _) = Some (Int w)
 
-abbrev pub define_some : Defined → Option (At Name) → Option Meaning → Defined
-define_some before written None = before
-define_some before written (Some m) = define before written m
+abbrev pub register : Reached → Option Ty → Option Meaning
+register r None = None
+register r (Some type) = Some (meaning.Register r.block r.instrs type)
+
+-- what the result of an instruction means, if it has one
+abbrev pub result_meaning : Reached → Bool → RawKind → Option Meaning
+result_meaning r named (Alloca w) = Some (meaning.Variable r.variables w)
+result_meaning r named k = register r (result_type named k)
 
 -- behind an instruction
 abbrev pub after_instr : Reached → RawInstr → Reached
 after_instr r x = record {
-  before = define_some r.before x.result (result_meaning r x.kind);
+  before = define_some r.before x.result (result_meaning r (is_some x.result) x.kind);
+  block = r.block;
   variables = if is_alloca x.kind then r.variables + 1 else r.variables;
   instrs = if is_alloca x.kind then r.instrs else r.instrs + 1;
 }
@@ -179,99 +78,148 @@ unfoldable pub after_instrs : Reached → List RawInstr → Reached
 after_instrs r [] = r
 after_instrs r (x ∷ xs) = after_instrs (after_instr r x) xs
 
-abbrev pub is_i32 : Width → Bool
-is_i32 I1 = false
-is_i32 I8 = false
-is_i32 I16 = false
-is_i32 I32 = true
-is_i32 I64 = false
+-- behind the label of a block
+abbrev pub at_block : Reached → RawBlock → Reached
+at_block r b = record { before = define r.before b.label (meaning.Block r.block); block = r.block; variables = r.variables; instrs = 0 }
 
-abbrev pub is_add : Bin → Bool
-is_add Add = true
-is_add _ = false
+-- behind the instructions of a block
+abbrev pub at_term : Reached → RawBlock → Reached
+at_term r b = after_instrs (at_block r b) b.instrs
 
--- an instruction of the first form: an alloca, a load, a store or an addition of i32
-abbrev pub is_first_kind : RawKind → Bool
-is_first_kind (kind.Alloca w) = is_i32 w
-is_first_kind (kind.Load w _) = is_i32 w
-is_first_kind (kind.Store w _ _) = is_i32 w
-is_first_kind (kind.Bin op w _ _) = is_add op && is_i32 w
-is_first_kind _ = false
+-- before the next block
+abbrev pub next_block : Reached → Reached
+next_block r = record { before = r.before; block = r.block + 1; variables = r.variables; instrs = 0 }
 
--- an alloca stands before all other instructions; what others use is defined
-abbrev pub kind_problem : Defined → Reached → Span → RawKind → Option Problem
-kind_problem locals r word (kind.Alloca _) = broken rule.LateAlloca word (not (r.instrs == 0))
-kind_problem locals r word (kind.Load _ a) = address_problem locals r.instrs a
-kind_problem locals r word (kind.Store w v a) = value_problem locals r.instrs w v >> address_problem locals r.instrs a
-kind_problem locals r word (kind.Bin _ w one other) = value_problem locals r.instrs w one >> value_problem locals r.instrs w other
-kind_problem locals r word _ = None
+abbrev pub after_block : Reached → RawBlock → Reached
+after_block r b = next_block (at_term r b)
 
-abbrev pub instr_problem : Defined → Reached → RawInstr → Option Problem
-instr_problem locals r x =
-    name_problem r.before x.result >> broken rule.NotYet x.word (not (is_first_kind x.kind)) >> kind_problem locals r x.word x.kind
+unfoldable pub after_blocks : Reached → List RawBlock → Reached
+after_blocks r [] = r
+after_blocks r (b ∷ bs) = after_blocks (after_block r b) bs
 
-unfoldable pub instrs_problem : Defined → Reached → List RawInstr → Option Problem
-instrs_problem locals r [] = None
-instrs_problem locals r (x ∷ xs) = instr_problem locals r x >> instrs_problem locals (after_instr r x) xs
+-- behind parameters, of which the first has number i
+unfoldable pub after_params : ℕ → Defined → List RawParam → Defined
+after_params i before [] = before
+after_params i before (p ∷ ps) = after_params (i + 1) (define before p.name (meaning.Parameter i p.width)) ps
 
--- ---- blocks, functions and the tree
+-- before the first block of a function
+abbrev pub at_body : RawFunction → Reached
+at_body f = record { before = after_params 0 nothing f.params; block = 0; variables = 0; instrs = 0 }
 
-abbrev pub term_problem : Defined → ℕ → Span → RawTerm → Option Problem
-term_problem locals here word (term.Return (Some r)) = broken rule.NotYet word (not (is_i32 r.0)) >> value_problem locals here r.0 r.1
-term_problem locals here word _ = broken rule.NotYet word true
+-- what the names of a whole function mean
+abbrev pub locals_of : RawFunction → Defined
+locals_of f = (after_blocks (at_body f) f.blocks).before
 
--- before the first instruction of a block
-abbrev pub at_start : RawBlock → Reached
-at_start b = record { before = define nothing b.label meaning.Block; variables = 0; instrs = 0 }
+-- ---- instructions and blocks
 
--- behind the last
-abbrev pub at_end : RawBlock → Reached
-at_end b = after_instrs (at_start b) b.instrs
+-- an instruction behind its name
+abbrev pub kind_problem : Context → Reached → Bool → Span → RawKind → Option Problem
+kind_problem c r named word (Alloca _) = broken rule.LateAlloca word (not (r.block == 0 && r.instrs == 0))
+kind_problem c r named word (Load w a) = address_problem c (here r) w a
+kind_problem c r named word (Store w v a) = value_problem c (here r) w v >> address_problem c (here r) w a
+kind_problem c r named word (Bin _ w one other) = value_problem c (here r) w one >> value_problem c (here r) w other
+kind_problem c r named word (Icmp _ w one other) = value_problem c (here r) w one >> value_problem c (here r) w other
+kind_problem c r named word (Cast cast w v to) = value_problem c (here r) w v >> broken rule.BadType to.span (not (casts cast w to.item))
+kind_problem c r named word (Select test w one second other) =
+    value_problem c (here r) I1 test >> value_problem c (here r) w one >>
+    broken rule.BadType second.span (not (same_width second.item w)) >> value_problem c (here r) w other
+kind_problem c r named word (Call type callee arguments) =
+    callee_problem c type named (length arguments) callee >> arguments_problem c (here r) (params_of c callee.item) arguments
+kind_problem c r named word (Phi _ _) = broken rule.Phi word true
 
--- what the names of the block mean
-abbrev pub locals_of : RawBlock → Defined
-locals_of b = (at_end b).before
+abbrev pub instr_problem : Context → Reached → RawInstr → Option Problem
+instr_problem c r x = name_problem r.before x.result >> kind_problem c r (is_some x.result) x.word x.kind
 
-abbrev pub block_problem : RawBlock → Option Problem
-block_problem b =
-    name_problem nothing b.label
-    >> instrs_problem (locals_of b) (at_start b) b.instrs
-    >> term_problem (locals_of b) (at_end b).instrs b.term_word b.term
+unfoldable pub instrs_problem : Context → Reached → List RawInstr → Option Problem
+instrs_problem c r [] = None
+instrs_problem c r (x ∷ xs) = instr_problem c r x >> instrs_problem c (after_instr r x) xs
 
--- more than 2^20 variables or 2^18 instructions
-abbrev pub is_above_limits : RawBlock → Bool
-is_above_limits b =
-    nat_lt (2 ^ 20) (count_by (λ x. is_alloca x.kind) b.instrs) || nat_lt (2 ^ 18) (count_by (λ x. not (is_alloca x.kind)) b.instrs)
+abbrev pub term_problem : Context → Here → Span → RawTerm → Option Problem
+term_problem c at word (Return None) = broken rule.BadType word (not (same_type c.ret Void))
+term_problem c at word (Return (Some v)) = broken rule.BadType word (not (same_type c.ret (Int v.0))) >> value_problem c at v.0 v.1
+term_problem c at word (Jump target) = label_problem c at target
+term_problem c at word (Branch test one other) = value_problem c at I1 test >> label_problem c at one >> label_problem c at other
+term_problem c at word (Switch w v other cases) = value_problem c at w v >> label_problem c at other >> cases_problem c at w [] cases
+term_problem c at word Unreachable = None
 
-abbrev pub blocks_problem : Span → List RawBlock → Option Problem
-blocks_problem s [] = broken rule.NotYet s true
-blocks_problem s (b ∷ []) = broken rule.Limit s (is_above_limits b) >> block_problem b
-blocks_problem s (b ∷ c ∷ bs) = broken rule.NotYet s true
+abbrev pub block_problem : Context → Reached → RawBlock → Option Problem
+block_problem c r b =
+    name_problem r.before b.label >>
+    instrs_problem c (at_block r b) b.instrs >>
+    term_problem c (here (at_term r b)) b.term_word b.term
 
-abbrev pub is_i32_type : Ty → Bool
-is_i32_type (type.Int w) = is_i32 w
-is_i32_type type.Void = false
-is_i32_type type.Ptr = false
+unfoldable pub blocks_problem : Context → Reached → List RawBlock → Option Problem
+blocks_problem c r [] = None
+blocks_problem c r (b ∷ bs) = block_problem c r b >> blocks_problem c (after_block r b) bs
+
+-- the parameters of a function, of which the first has number i
+unfoldable pub params_problem : ℕ → Defined → List RawParam → Option Problem
+params_problem i before [] = None
+params_problem i before (p ∷ ps) = name_problem before p.name >> params_problem (i + 1) (define before p.name (meaning.Parameter i p.width)) ps
+
+-- ---- functions and globals
 
 abbrev pub is_nil : {T : Type 0} → List T → Bool
 is_nil [] = true
 is_nil (x ∷ xs) = false
 
--- `main` without parameters, of i32
-abbrev pub is_main : RawFunction → Bool
-is_main f = bytes_eq f.name.item (codes "main") && is_i32_type f.ret && is_nil f.params
+-- one parameter, of 32 bits
+abbrev pub takes_i32 : List RawParam → Bool
+takes_i32 [] = false
+takes_i32 (p ∷ ps) = same_width p.width I32 && is_nil ps
 
-abbrev pub function_problem : RawFunction → Option Problem
-function_problem f = broken rule.NotYet f.name.span (not (is_main f)) >> blocks_problem f.name.span f.blocks
+-- `i32 @getchar()` or `i32 @putchar(i32)`
+abbrev pub is_known_external : RawFunction → Bool
+is_known_external f =
+    same_type f.ret (Int I32) && ((bytes_eq f.name.item (codes "getchar") && is_nil f.params) || (bytes_eq f.name.item (codes "putchar") && takes_i32 f.params))
 
-abbrev pub start_of_text : Span
-start_of_text = record { line = 1; start = 0; end = 0 }
+-- what stands before a function or a global of a tree: what the names mean, and how many of both there are
+pub record Passed : Type 0 where
+  pub before : Defined
+  pub globals : ℕ
+  pub functions : ℕ
 
-abbrev pub functions_problem : List RawFunction → Option Problem
-functions_problem [] = broken rule.NotYet start_of_text true
-functions_problem (f ∷ []) = function_problem f
-functions_problem (f ∷ g ∷ fs) = broken rule.NotYet start_of_text true
+abbrev pub at_top : Passed
+at_top = record { before = nothing; globals = 0; functions = 0 }
 
--- the first broken rule of a tree in text order, and at one place the smallest, or none
+abbrev pub after_item : Passed → Item → Passed
+after_item p (Global g) = record { before = define p.before (symbol_name g.name) (meaning.Global p.globals g.width); globals = p.globals + 1; functions = p.functions }
+after_item p (Function f) = record { before = define p.before (symbol_name f.name) (meaning.Function p.functions); globals = p.globals; functions = p.functions + 1 }
+
+unfoldable pub after_items : Passed → List Item → Passed
+after_items p [] = p
+after_items p (x ∷ xs) = after_items (after_item p x) xs
+
+-- what the names of a whole tree mean
+abbrev pub symbols_of : Raw → Defined
+symbols_of raw = (after_items at_top (items_in_order raw)).before
+
+-- what stands around the places of a function of a tree with these functions and names
+abbrev pub context_in : List RawFunction → Defined → RawFunction → Context
+context_in functions symbols f = record { functions = functions; symbols = symbols; ret = f.ret; locals = locals_of f }
+
+-- nothing is defined where the literal of a global stands
+abbrev pub no_context : Context
+no_context = record { functions = []; symbols = nothing; ret = Void; locals = nothing }
+
+abbrev pub nowhere : Here
+nowhere = record { block = 0; instr = 0 }
+
+abbrev pub body_problem : Context → RawFunction → Option Problem
+body_problem c f = params_problem 0 nothing f.params >> blocks_problem c (at_body f) f.blocks
+
+abbrev pub item_problem : List RawFunction → Defined → Passed → Item → Option Problem
+item_problem functions symbols p (Global g) = name_problem p.before (symbol_name g.name) >> value_problem no_context nowhere g.width g.value
+item_problem functions symbols p (Function f) =
+    name_problem p.before (symbol_name f.name) >>
+    broken rule.UnknownExternal f.name.span (is_nil f.blocks && not (is_known_external f)) >>
+    broken rule.Limit f.name.span (is_above_limits f) >>
+    body_problem (context_in functions symbols f) f
+
+unfoldable pub items_problem : List RawFunction → Defined → Passed → List Item → Option Problem
+items_problem functions symbols p [] = None
+items_problem functions symbols p (x ∷ xs) = item_problem functions symbols p x >> items_problem functions symbols (after_item p x) xs
+
+-- the first broken rule of a tree, or none
 abbrev pub tree_problem : Raw → Option Problem
-tree_problem raw = broken rule.NotYet start_of_text (not (is_nil raw.globals)) >> functions_problem raw.functions
+tree_problem raw = items_problem raw.functions (symbols_of raw) at_top (items_in_order raw)

@@ -1,7 +1,7 @@
-use Rattle.std.proofs.Common.{◌≡◌, ◌++◌, take}
+use Rattle.std.proofs.Common.{◌≡◌, ◌++◌, codes, map, drop, ◌==◌, ◌&&◌, not, take, [], true}
 use Rattle.std.specs.List.{flat_map}
-use Rattle.ir_printer.specs.Text.{main_text}
+use Rattle.ir_printer.specs.Text.{separated, function_text}
 use Rattle.ir_printer.proofs.printing.put_functions.Given as goal
 
-abbrev pub invariant-loop-function : goal.invariant-loop-function
-invariant-loop-function l = l.out.written ≡ l.fn.out.written ++ flat_map (λ f. flat_map (main_text f) f.blocks) (take l.function-index l.functions)
+abbrev pub invariant-loop-index : goal.invariant-loop-index
+invariant-loop-index l = l.out.written ++ separated (codes "\n") (not l.has_globals && l.index == 0) (map (function_text l.program) (drop l.index l.functions)) ≡ l.fn.out.written ++ separated (codes "\n") (not l.has_globals) (map (function_text l.program) l.functions)

@@ -1,7 +1,0 @@
-use Rattle.std.proofs.Common.{◌≡◌, ◌++◌, take}
-use Rattle.std.specs.List.{flat_map}
-use Rattle.ir_printer.specs.Text.{alloca_line}
-use Rattle.ir_printer.proofs.printing.put_allocas.Given as goal
-
-abbrev pub invariant-loop-variable : goal.invariant-loop-variable
-invariant-loop-variable l = l.out.written ≡ l.fn.out.written ++ flat_map (λ x. alloca_line x.1) (take l.variable-index l.variable-items)
