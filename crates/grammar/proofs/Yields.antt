@@ -1,11 +1,11 @@
 -- What holds of each tree of a grammar, and how many tokens it takes at least.
-use Rattle.std.proofs.Common.{◌≡◌, ◌≤◌, ◌+◌, ℕ, Bool, true, List, [], ◌∷◌, Option, Some, None, length, inl, inr, sym, ap, subst, arith}
+use Rattle.std.proofs.Common.{◌≡◌, ◌≤◌, ◌+◌, ℕ, Bool, true, false, List, [], ◌∷◌, Option, Some, None, length, ◌⊎◌, inl, inr, sym, ap, subst, ◌∙◌, arith, refl}
 use Rattle.std.specs.Prelude.{All, IfSome, sum_by}
 use Rattle.std.specs.List.{AllByRecursion}
 use Rattle.std.proofs.lemmas.List.Elements.{All-cons}
 use Rattle.std.proofs.lemmas.List.Sums.{sum_by-cons}
-use Rattle.grammar.specs.Grammar.{Grammar, token, pair, choice, optional, repeated, gives, provided, is_next, Row, Spells}
-use Rattle.grammar.proofs.Determined.{takes}
+use Rattle.grammar.specs.Grammar.{Grammar, token, pair, choice, optional, repeated, gives, provided, is_empty, is_next, Row, Spells}
+use Rattle.grammar.proofs.Determined.{takes, not_begun, by_cases, progress}
 
 row_keeps : {T A : Type 0} (Q : T → Type 0) (next : List T → Bool) (Item : List T → A → List T → Type 0) → ((ts : List T) (x : A) (rest : List T) → Item ts x rest → AllByRecursion Q ts → AllByRecursion Q rest)
     → (ts : List T) (xs : List A) (rest : List T) → Row next Item ts xs rest → AllByRecursion Q ts → AllByRecursion Q rest
@@ -76,6 +76,13 @@ row_all R next Item P stay p ts (x ∷ xs) rest all r = All-cons P x xs (p ts x 
 pub of_repeated : {T A : Type 0} {R : T → Type 0} (g : Grammar T A) (P : A → Type 0) → YieldsFrom R g P → YieldsFrom R (repeated g) (All P)
 of_repeated {R = R} g P p = record { holds = λ ts xs rest all s. row_all R _ (Spells g) P (keeps R g) p.holds ts xs rest all s.0 }
 
+pub of_provided : {T A : Type 0} {R : T → Type 0} (look : List T → Bool) (g : Grammar T A) (P : A → Type 0) → YieldsFrom R g P → YieldsFrom R (provided look g) P
+of_provided look g P p = record { holds = λ ts x rest all s. p.holds ts x rest all s.1 }
+
+-- a first item before the others
+pub of_led : {T A : Type 0} {R : T → Type 0} (g h : Grammar T A) (P : A → Type 0) → YieldsFrom R g P → YieldsFrom R h P → YieldsFrom R (gives (λ (x : A × List A). x.0 ∷ x.1) (pair g (repeated h))) (All P)
+of_led {A = A} g h P p q = of_gives (λ (x : A × List A). x.0 ∷ x.1) (pair g (repeated h)) (λ x. P x.0 × All P x.1) (All P) (λ x r. All-cons P x.0 x.1 r.0 r.1) (of_pair g (repeated h) P (All P) p (of_repeated h P q))
+
 -- any tokens will do
 pub of_all : {T : Type 0} (ts : List T) → AllByRecursion (λ _. Unit {0}) ts
 of_all [] = tt
@@ -132,3 +139,40 @@ row_sum next Item n p ts (x ∷ xs) rest r =
 
 pub each : {T A : Type 0} (g : Grammar T A) (n : A → ℕ) → Takes g n → Takes (repeated g) (sum_by n)
 each g n p = record { bound = λ ts xs rest s. row_sum _ (Spells g) n p.bound ts xs rest s.0 }
+
+-- a phrase that can't be empty takes a token
+pub some : {T A : Type 0} (g : Grammar T A) → is_empty g ≡ false → Takes g (λ _. 1)
+some {T} {A} g full = record { bound = bound }
+  where
+    more : (ts : List T) (x : A) (rest : List T) → (is_next g ts ≡ true) ⊎ (is_next g ts ≡ false) → Spells g ts x rest → 1 + length rest ≤ length ts
+    more ts x rest (inl begun) s = let l = progress g ts x rest begun s in omega arith
+    more ts x rest (inr other) s = absurd (let e : true ≡ false = sym (not_begun g ts x rest other s).1 ∙ full in cc)
+
+    bound : (ts : List T) (x : A) (rest : List T) → Spells g ts x rest → 1 + length rest ≤ length ts
+    bound ts x rest s = more ts x rest (by_cases (is_next g ts)) s
+
+-- what is counted of an optional part
+abbrev pub if_some : {A : Type 0} → (A → ℕ) → Option A → ℕ
+if_some n None = 0
+if_some n (Some x) = n x
+
+pub maybe : {T A : Type 0} (g : Grammar T A) (n : A → ℕ) → Takes g n → Takes (optional g) (if_some n)
+maybe {T} {A} g n p = record { bound = bound }
+  where
+    bound : (ts : List T) (x : Option A) (rest : List T) → Spells (optional g) ts x rest → if_some n x + length rest ≤ length ts
+    bound ts None rest s = let e = ap length s.1 in omega arith
+    bound ts (Some x) rest s = p.bound ts x rest s.1
+
+pub looking : {T A : Type 0} (look : List T → Bool) (g : Grammar T A) (n : A → ℕ) → Takes g n → Takes (provided look g) n
+looking look g n p = record { bound = λ ts x rest s. p.bound ts x rest s.1 }
+
+pub led_by : {T A : Type 0} (g h : Grammar T A) (n : A → ℕ) → Takes g n → Takes h n → Takes (gives (λ (x : A × List A). x.0 ∷ x.1) (pair g (repeated h))) (sum_by n)
+led_by {A = A} g h n p q = made (λ (x : A × List A). x.0 ∷ x.1) (pair g (repeated h)) (λ x. n x.0 + sum_by n x.1) (sum_by n) (λ x. omega (arith, sum_by-cons n x.0 x.1)) (both g (repeated h) n (sum_by n) p (each h n q))
+
+-- items of one token each
+pub sum_of_ones : {A : Type 0} (xs : List A) → sum_by (λ _. 1) xs ≡ length xs
+sum_of_ones [] = refl
+sum_of_ones {A} (x ∷ xs) = omega (arith, sum_by-cons (λ (y : A). 1) x xs, sum_of_ones xs)
+
+pub counted : {T A : Type 0} (g : Grammar T (List A)) → Takes g (sum_by (λ _. 1)) → Takes g length
+counted g p = record { bound = λ ts xs rest s. let l = p.bound ts xs rest s in omega (arith, sum_of_ones xs) }

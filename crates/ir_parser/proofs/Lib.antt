@@ -6,3 +6,6 @@ pub mod Places
 pub mod Members
 pub mod Probes
 pub mod Refused
+pub mod Spelt
+pub mod Spelled
+pub mod Sizes

@@ -1,12 +1,16 @@
 -- What a probe behind tokens tells.
 use Rattle.std.proofs.Common.{◌≡◌, ℕ, ◌+◌, ◌<◌, nat_eq, not, Bool, true, false, List, [], ◌∷◌, ◌++◌, drop, map, length, Ok, Err, ◌⊎◌, inl, inr, refl, sym, ap, subst, ◌∙◌, arith, codes, length-append, length-drop}
 use Rattle.std.proofs.lemmas.List.{length-map}
-use Rattle.ir_lexer.specs.Lexeme.{Lexeme}
+use Rattle.std.specs.Prelude.{IsTrue}
+use Rattle.ir_types.specs.declared.tree.Raw.{Raw}
+use Rattle.ir_lexer.specs.Lexeme.{Lexeme, lexeme}
+use Rattle.ir_lexer.specs.declared.token.Token.{Token}
 use Rattle.ir_lexer.specs.declared.token.TokenKind.TheVariants as kinds
 use Rattle.grammar.specs.Grammar.{Grammar, StopsAt}
 use Rattle.grammar.specs.Reading.{Reading, read}
 use Rattle.grammar.proofs.Determined.{spelled, stopped}
 use Rattle.grammar.proofs.ExactlyOne.{determined}
+use Rattle.ir_parser.specs.Module.{module_text}
 use Rattle.ir_parser.specs.Answers.{Tells}
 use Rattle.ir_parser.specs.Profile.{probe, GoesOn, IsValueExpected, IsPointerExpected}
 use Rattle.ir_parser.proofs.Whole.{err_stop, over_stop, ok_is, not_both}
@@ -84,7 +88,19 @@ stop_tells {T} g f front x at e =
     let P : List T → Type 0 = λ l. StopsAt g (map f (front ++ x ∷ [])) l in
     by_index g f front x at (λ h. subst P h stops) (λ s. (determined g (map f (front ++ x ∷ []))).one_stop _ _ stops s)
 
+pub read_at : (front tokens : List Token) (x : Token) (at : ℕ) (y : Raw) → tokens ≡ front ++ x ∷ [] → read module_text (map lexeme tokens) ≡ Ok (y, map lexeme (drop at tokens))
+    → Tells (not (nat_eq at (length front))) (GoesOn (map lexeme front) (lexeme x))
+read_at front tokens x at y e r = let P : List Token → Type 0 = λ l. read module_text (map lexeme l) ≡ Ok (y, map lexeme (drop at l)) in read_tells module_text lexeme front x at y (subst P e r)
+
+pub stops_at : (front tokens : List Token) (x : Token) (at : ℕ) → tokens ≡ front ++ x ∷ [] → read module_text (map lexeme tokens) ≡ Err (map lexeme (drop at tokens))
+    → Tells (not (nat_eq at (length front))) (GoesOn (map lexeme front) (lexeme x))
+stops_at front tokens x at e r = let P : List Token → Type 0 = λ l. read module_text (map lexeme l) ≡ Err (map lexeme (drop at l)) in stop_tells module_text lexeme front x at (subst P e r)
+
 -- ---- a global
+
+pub not_true : (b : Bool) → b ≡ false → IsTrue b → ⊥
+not_true true e t = absurd cc
+not_true false e t = absurd cc
 
 pub global_told : (front : List Lexeme) (D : Type 0) (ends : Bool) → (D → ⊥) → GoesOn front (probe kinds.Local (codes "%x")) → (GoesOn front (probe kinds.Word (codes "undef")) → ⊥)
     → GoesOn front (probe kinds.Word (codes "noundef")) → Tells ends (GoesOn front (probe kinds.Punct (codes ")"))) → Tells (not ends) (D ⊎ (IsValueExpected front ⊎ IsPointerExpected front))

@@ -6,6 +6,5 @@ pub mod Instrs
 pub mod Terms
 pub mod Module
 pub mod Reader
-pub mod Size
 pub mod Profile
 pub mod Answers

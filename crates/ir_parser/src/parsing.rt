@@ -3,9 +3,11 @@
 ghost use Rattle.std.specs.Prelude.{◌≡◌, ◌≤◌, List, length, map, take, drop, All, IfOk};
 ghost use Rattle.grammar.specs.Grammar.{SpellsAll, IsDetermined};
 ghost use Rattle.ir_lexer.specs.Lexeme.{Lexeme, lexeme};
+ghost use Rattle.ir_lexer.specs.Texts.{IsText};
+ghost use Rattle.ir_types.specs.Written.{IsSpelledTree};
 ghost use Rattle.ir_types.specs.declared.tree.Raw.{Raw};
 ghost use Rattle.ir_parser.specs.Module.{module_text};
-ghost use Rattle.ir_parser.specs.Size.{items};
+ghost use Rattle.ir_types.specs.Size.{items};
 ghost use Rattle.ir_parser.specs.Answers.{IsReadAs, StopsSo, Names, place_at};
 
 use crate::modules::module_text;
@@ -46,6 +48,8 @@ pub fn parse<'a>(
     ensures stop { StopsSo (map lexeme tokens.now) end result }
     // The tree has no more items than there are tokens.
     ensures few { IfOk result (λ raw. items raw ≤ length tokens.now) }
+    // Its names can be spelled, since its tokens are, and no type or value stands where the grammar has none.
+    ensures spelled { All (λ t. IsText t.kind t.text.now) tokens.now → IfOk result IsSpelledTree }
 {
     match module_text(alloc, tokens, 0) {
         Ok((raw, at)) => {
