@@ -12,12 +12,12 @@ use Rattle.ir_types.specs.declared.tree.RawBlock.{RawBlock}
 use Rattle.ir_types.specs.declared.tree.RawFunction.{RawFunction}
 use Rattle.ir_types.specs.declared.tree.Raw.{Raw}
 use Rattle.ir_lexer.specs.Lexeme.{Lexeme}
-use Rattle.ir_parser.specs.Tokens.{or_none}
+use Rattle.ir_parser.specs.Tokens.{G, or_none}
 use Rattle.ir_parser.specs.Values.{int_type}
 use Rattle.ir_parser.specs.Calls.{Worded, arg, next_arg, some_args, args, call_word, call, incoming, next_incoming, incomings, phi}
 use Rattle.ir_parser.specs.Instrs.{binop, castop, alloca, load, binary, compare, convert, select, computing, giving, store, giving_instr, storing_instr, bare_instr, instr, instrs}
 use Rattle.ir_parser.specs.Terms.{returned, branched, switch_case, cases, switched, bare_term, term, block, blocks}
-use Rattle.ir_parser.specs.Module.{par, next_par, some_pars, pars, signature, declare, define, variable, part, parts_of, tree_of, module_text}
+use Rattle.ir_parser.specs.Module.{par, next_par, some_pars, pars, signature, declare, define, variable, part, parts_of, functions_of, tree_of, module_text}
 use Rattle.ir_parser.specs.declared.modules.Member.{Member}
 use Rattle.ir_parser.specs.declared.modules.Member.TheVariants.{Function, Global}
 
@@ -176,9 +176,12 @@ pars_takes : Takes pars length
 unfolding pars
 pars_takes = made _ _ (if_some length) _ none_fits (maybe _ length some_pars_takes)
 
+fewer : {A : Type 0} (g : G A) (n m : A → ℕ) → ((x : A) → m x ≤ n x) → Takes g n → Takes g m
+fewer g n m to p = record { bound = λ ts x rest s. let a = p.bound ts x rest s in let b = to x in omega arith }
+
 signature_takes : Takes signature (λ s. length s.1.1)
 unfolding signature
-signature_takes = second_of _ _ _ (second_of _ _ _ (made _ _ (λ x. 0 + (0 + length x.1.1)) _ (λ x. omega arith)
+signature_takes = second_of _ _ _ (second_of _ _ _ (fewer _ (λ x. 0 + (0 + length x.1.1)) _ (λ x. omega arith)
     (both _ _ (λ _. 0) (λ y. 0 + length y.1) (none _) (both _ _ (λ _. 0) length (none _) (second_of _ _ _ (first_of _ _ _ pars_takes))))))
 
 abbrev function_size : RawFunction → ℕ
@@ -205,7 +208,7 @@ part_takes = either_of _ _ _ (made _ _ function_size _ (λ f. omega arith) decla
 
 tree_size : (ps : List Member) → items (tree_of ps) ≡ sum_by member_size ps
 tree_size [] = refl
-tree_size (Function f ∷ ps) = omega (arith, sum_by-cons member_size (Function f) ps, tree_size ps)
+tree_size (Function f ∷ ps) = omega (arith, sum_by-cons member_size (Function f) ps, sum_by-cons function_items f (functions_of ps), tree_size ps)
 tree_size (Global g ∷ ps) = omega (arith, sum_by-cons member_size (Global g) ps, tree_size ps)
 
 module_takes : Takes module_text items

@@ -1,5 +1,5 @@
 -- What holds of each tree of tokens that are spelled as their kinds say, phrase by phrase.
-use Rattle.std.proofs.Common.{◌≡◌, Bool, true, false, ℤ, pos, negsuc, ◌^◌, nat_lt, if◌then◌else◌, List, [], ◌∷◌, Option, Some, None, map, arith}
+use Rattle.std.proofs.Common.{◌≡◌, ℕ, Bool, true, false, ℤ, pos, negsuc, ◌^◌, nat_lt, if◌then◌else◌, List, [], ◌∷◌, Option, Some, None, map, arith}
 use Rattle.std.specs.Prelude.{All, IfSome}
 use Rattle.std.specs.List.{AllByRecursion}
 use Rattle.std.proofs.lemmas.List.Elements.{All-cons, recursion_from_All}
@@ -214,7 +214,7 @@ pars_spelled : Spelled pars (All IsSpelledParam)
 unfolding pars
 pars_spelled = of_gives _ _ (λ o. IfSome o (All IsSpelledParam)) _ (all_or_none IsSpelledParam) (of_optional _ _ some_pars_spelled)
 
-abbrev IsSpelledSignature : Ty × (At (List _) × List RawParam) → Type 0
+abbrev IsSpelledSignature : Ty × (At (List ℕ) × List RawParam) → Type 0
 IsSpelledSignature s = IsResultType s.0 × (IsNameText s.1.0.item × All IsSpelledParam s.1.1)
 
 signature_spelled : Spelled signature IsSpelledSignature
