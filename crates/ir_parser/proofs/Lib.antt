@@ -9,3 +9,4 @@ pub mod Refused
 pub mod Spelt
 pub mod Spelled
 pub mod Sizes
+mod Rows

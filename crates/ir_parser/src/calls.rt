@@ -11,7 +11,7 @@ use crate::tokens::{
     Stop, Trouble, global, is_next, is_one_of_next, is_word_next, local, mark, skip_words,
     take_kind, take_one_of, word,
 };
-use crate::values::{attributes, is_type_next, ret, extras, ty, value};
+use crate::values::{attributes, extras, is_type_next, ret, ty, value};
 use crate::words::local_name;
 use ir_lexer::{Token, TokenKind};
 use ir_types::items::Items;

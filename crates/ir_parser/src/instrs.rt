@@ -136,14 +136,7 @@ fn flags(tokens: &[Token], at: usize) -> usize
     skip_words(
         tokens,
         at,
-        &[
-            b"nuw",
-            b"nsw",
-            b"exact",
-            b"disjoint",
-            b"nneg",
-            b"samesign",
-        ],
+        &[b"nuw", b"nsw", b"exact", b"disjoint", b"nneg", b"samesign"],
     )
 }
 
@@ -306,10 +299,7 @@ fn is_giving_next(tokens: &[Token], at: usize) -> bool
 
 /// The name of a result, if one is written.
 #[tactic(auto, unfolding(crate::specs::Instrs::result_name))]
-fn result_name<'a>(
-    tokens: &[Token<'a>],
-    at: usize,
-) -> Result<(Option<At<Name<'a>>>, usize), Stop>
+fn result_name<'a>(tokens: &[Token<'a>], at: usize) -> Result<(Option<At<Name<'a>>>, usize), Stop>
     ensures { Gives tokens.now result (read result_name (map lexeme (drop at tokens.now))) }
 {
     if is_kind_next(tokens, at, TokenKind::Local) {

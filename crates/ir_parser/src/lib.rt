@@ -7,6 +7,8 @@ mod modules;
 mod parsing;
 mod profile;
 mod terms;
+#[cfg(test)]
+mod tests;
 mod tokens;
 mod values;
 mod words;

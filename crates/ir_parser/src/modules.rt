@@ -14,7 +14,7 @@ use crate::tokens::{
     take_one_of, word,
 };
 use crate::values::{
-    attached, attributes, global_linkage, gvalue, is_type_next, linkage, ret, extras, ty,
+    attached, attributes, extras, global_linkage, gvalue, is_type_next, linkage, ret, ty,
 };
 use ir_lexer::{Token, TokenKind};
 use ir_types::items::Items;
@@ -188,11 +188,7 @@ fn variable<'a>(tokens: &[Token<'a>], at: usize) -> Result<(RawGlobal<'a>, usize
 
 /// A function or a global.
 #[tactic(auto, unfolding(crate::specs::Module::part, crate::specs::Module::declare, crate::specs::Module::define))]
-fn part<'a>(
-    alloc: Global,
-    tokens: &[Token<'a>],
-    at: usize,
-) -> Result<(Member<'a>, usize), Trouble>
+fn part<'a>(alloc: Global, tokens: &[Token<'a>], at: usize) -> Result<(Member<'a>, usize), Trouble>
     ensures { GivesOrMemory tokens.now result (read part (map lexeme (drop at tokens.now))) }
 {
     if is_word_next(tokens, at, b"declare") {

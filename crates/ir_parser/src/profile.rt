@@ -15,29 +15,86 @@ use mc_num::NoMemory;
 use std::alloc;
 
 const TYPE_WORDS: [&[u8]; 20] = [
-    b"ptr", b"half", b"bfloat", b"float", b"double", b"fp128", b"x86_fp80", b"fadd", b"fsub",
-    b"fmul", b"fdiv", b"frem", b"fneg", b"fcmp", b"fptrunc", b"fpext", b"fptoui", b"fptosi",
-    b"uitofp", b"sitofp",
+    b"ptr",
+    b"half",
+    b"bfloat",
+    b"float",
+    b"double",
+    b"fp128",
+    b"x86_fp80",
+    b"fadd",
+    b"fsub",
+    b"fmul",
+    b"fdiv",
+    b"frem",
+    b"fneg",
+    b"fcmp",
+    b"fptrunc",
+    b"fpext",
+    b"fptoui",
+    b"fptosi",
+    b"uitofp",
+    b"sitofp",
 ];
 
 const MEMORY_WORDS: [&[u8]; 16] = [
-    b"getelementptr", b"volatile", b"atomic", b"fence", b"cmpxchg", b"atomicrmw", b"ptrtoint",
-    b"inttoptr", b"addrspacecast", b"extractvalue", b"insertvalue", b"extractelement",
-    b"insertelement", b"shufflevector", b"va_arg", b"freeze",
+    b"getelementptr",
+    b"volatile",
+    b"atomic",
+    b"fence",
+    b"cmpxchg",
+    b"atomicrmw",
+    b"ptrtoint",
+    b"inttoptr",
+    b"addrspacecast",
+    b"extractvalue",
+    b"insertvalue",
+    b"extractelement",
+    b"insertelement",
+    b"shufflevector",
+    b"va_arg",
+    b"freeze",
 ];
 
 const CONTROL_WORDS: [&[u8]; 9] = [
-    b"invoke", b"callbr", b"indirectbr", b"landingpad", b"resume", b"personality", b"asm",
-    b"musttail", b"...",
+    b"invoke",
+    b"callbr",
+    b"indirectbr",
+    b"landingpad",
+    b"resume",
+    b"personality",
+    b"asm",
+    b"musttail",
+    b"...",
 ];
 
 const TOP_WORDS: [&[u8]; 18] = [
-    b"module", b"comdat", b"metadata", b"null", b"zeroinitializer", b"weak", b"weak_odr",
-    b"linkonce", b"linkonce_odr", b"available_externally", b"common", b"external", b"extern_weak",
-    b"externally_initialized", b"thread_local", b"addrspace", b"alias", b"ifunc",
+    b"module",
+    b"comdat",
+    b"metadata",
+    b"null",
+    b"zeroinitializer",
+    b"weak",
+    b"weak_odr",
+    b"linkonce",
+    b"linkonce_odr",
+    b"available_externally",
+    b"common",
+    b"external",
+    b"extern_weak",
+    b"externally_initialized",
+    b"thread_local",
+    b"addrspace",
+    b"alias",
+    b"ifunc",
 ];
 
-const NOTE_WORDS: [&[u8]; 4] = [b"#dbg_declare", b"#dbg_value", b"#dbg_assign", b"#dbg_label"];
+const NOTE_WORDS: [&[u8]; 4] = [
+    b"#dbg_declare",
+    b"#dbg_value",
+    b"#dbg_assign",
+    b"#dbg_label",
+];
 
 fn is_type(text: &[u8]) -> bool
     ensures { result ≡ is_in int_words text.now }
@@ -122,11 +179,7 @@ fn goes_on<'a>(
 }
 
 /// A mark at which reading stops: `<` and `*` are never of this grammar, and a bracket begins another type.
-fn is_out_mark(
-    alloc: alloc::Global,
-    front: &[Token],
-    text: &[u8],
-) -> Result<bool, NoMemory>
+fn is_out_mark(alloc: alloc::Global, front: &[Token], text: &[u8]) -> Result<bool, NoMemory>
     ensures { IfOk result (λ out. Tells out (IsOutAt Punct (map lexeme front.now) text.now)) }
 {
     if is_in(text, &[b"<", b"*"]) {
@@ -139,11 +192,7 @@ fn is_out_mark(
 }
 
 /// A global at which reading stops: it is out of the profile where a value or the local of a `ptr` is expected.
-fn is_out_global(
-    alloc: alloc::Global,
-    front: &[Token],
-    text: &[u8],
-) -> Result<bool, NoMemory>
+fn is_out_global(alloc: alloc::Global, front: &[Token], text: &[u8]) -> Result<bool, NoMemory>
     ensures { IfOk result (λ out. Tells out (IsOutAt Global (map lexeme front.now) text.now)) }
 {
     if is_numbered(text) {
@@ -163,11 +212,7 @@ fn is_out_global(
 }
 
 /// Whether the token of the index, at which reading stops, is out of the profile. Want of memory is the only error.
-pub fn is_out(
-    alloc: alloc::Global,
-    tokens: &[Token],
-    at: usize,
-) -> Result<bool, NoMemory>
+pub fn is_out(alloc: alloc::Global, tokens: &[Token], at: usize) -> Result<bool, NoMemory>
     ensures { IfOk result (λ out. Tells out (IsOutOfProfile (map lexeme (take at tokens.now)) (map lexeme (drop at tokens.now)))) }
 {
     if at >= tokens.len() {

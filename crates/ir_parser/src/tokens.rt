@@ -193,22 +193,14 @@ pub fn is_word_next(tokens: &[Token], at: usize, text: &[u8]) -> bool
 }
 
 /// This word, and the index behind it.
-pub fn word<'a>(
-    tokens: &[Token<'a>],
-    at: usize,
-    text: &[u8],
-) -> Result<(Token<'a>, usize), Stop>
+pub fn word<'a>(tokens: &[Token<'a>], at: usize, text: &[u8]) -> Result<(Token<'a>, usize), Stop>
     ensures { GivesToken tokens.now result (read (word text.now) (map lexeme (drop at tokens.now))) }
 {
     take(tokens, at, TokenKind::Word, text)
 }
 
 /// This mark, and the index behind it.
-pub fn mark<'a>(
-    tokens: &[Token<'a>],
-    at: usize,
-    text: &[u8],
-) -> Result<(Token<'a>, usize), Stop>
+pub fn mark<'a>(tokens: &[Token<'a>], at: usize, text: &[u8]) -> Result<(Token<'a>, usize), Stop>
     ensures { GivesToken tokens.now result (read (mark text.now) (map lexeme (drop at tokens.now))) }
 {
     take(tokens, at, TokenKind::Punct, text)
