@@ -1,6 +1,12 @@
 pub mod Numbers
-pub mod Yields
 pub mod Whole
-pub mod Trees
-pub mod Written
+pub mod Loops
+pub mod Begins
+pub mod Places
+pub mod Members
+pub mod Probes
+pub mod Refused
+pub mod Spelt
+pub mod Spelled
+pub mod Sizes
 mod Rows

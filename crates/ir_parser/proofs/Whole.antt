@@ -6,10 +6,10 @@ use Rattle.grammar.specs.Reading.{Reading, read}
 use Rattle.grammar.proofs.Determined.{spelled}
 use Rattle.grammar.proofs.Rows.{read_is}
 
-ok_is : {T A : Type 0} (p q : A × List T) → (let r : Reading T A = Ok p in r ≡ Ok q) → p ≡ q
+pub ok_is : {T A : Type 0} (p q : A × List T) → (let r : Reading T A = Ok p in r ≡ Ok q) → p ≡ q
 ok_is p q e = cc
 
-not_both : {T A : Type 0} (p : A × List T) (stop : List T) → (let r : Reading T A = Ok p in r ≡ Err stop) → ⊥
+pub not_both : {T A : Type 0} (p : A × List T) (stop : List T) → (let r : Reading T A = Ok p in r ≡ Err stop) → ⊥
 not_both p stop e = absurd cc
 
 -- a phrase that stops is no tree

@@ -1,13 +1,14 @@
 -- What the reading of a whole list of tokens answers.
-use Rattle.std.specs.Prelude.{◌≡◌, List, [], ◌∷◌, Result, Ok, Err, map}
+use Rattle.std.specs.Prelude.{◌≡◌, ℕ, Bool, true, false, List, [], ◌∷◌, ◌++◌, Result, Ok, Err, map, take, drop}
 use Rattle.ir_types.specs.declared.span.Span.{Span}
 use Rattle.ir_types.specs.declared.tree.Raw.{Raw}
 use Rattle.ir_lexer.specs.Lexeme.{Lexeme, lexeme}
 use Rattle.ir_lexer.specs.declared.token.Token.{Token}
 use Rattle.grammar.specs.Grammar.{StopsAt}
-use Rattle.ir_parser.specs.FirstForm.{first_form}
+use Rattle.ir_parser.specs.Module.{module_text}
+use Rattle.ir_parser.specs.Profile.{IsOutOfProfile}
 use Rattle.ir_parser.specs.declared.parsing.ParseError.{ParseError}
-use Rattle.ir_parser.specs.declared.parsing.ParseError.TheVariants.{Syntax, NoMemory}
+use Rattle.ir_parser.specs.declared.parsing.ParseError.TheVariants.{Syntax, OutOfProfile, NoMemory}
 
 -- the place of a stop: its token's, or the end
 abbrev pub place_at : List Lexeme → Span → Span
@@ -19,9 +20,30 @@ abbrev pub IsReadAs : Raw → Result Raw ParseError → Type 0
 IsReadAs tree (Ok raw) = raw ≡ tree
 IsReadAs tree (Err NoMemory) = Unit {0}
 IsReadAs tree (Err (Syntax span)) = ⊥
+IsReadAs tree (Err (OutOfProfile span)) = ⊥
 
--- a refusal names the place of the stop
-abbrev pub StopsSo : List Token → Span → Result Raw ParseError → Type 0
+-- the answer is whether this holds
+abbrev pub Tells : Bool → Type 0 → Type 0
+Tells true P = P
+Tells false P = P → ⊥
+
+-- The error names the place of the stop behind the tokens of front, and is told from the other one by the profile.
+abbrev pub Names : List Lexeme → List Lexeme → Span → ParseError → Type 0
+Names front stop end (Syntax span) = (span ≡ place_at stop end) × (IsOutOfProfile front stop → ⊥)
+Names front stop end (OutOfProfile span) = (span ≡ place_at stop end) × IsOutOfProfile front stop
+Names front stop end NoMemory = Unit {0}
+
+-- the grammar stops in the tokens, at a place that the error names
+pub record IsRefused (tokens : List Lexeme) (end : Span) (error : ParseError) : Type 0 where
+  pub front : List Lexeme
+  pub stop : List Lexeme
+  pub parted : tokens ≡ front ++ stop
+  pub stops : StopsAt module_text tokens stop
+  pub named : Names front stop end error
+
+-- a refusal for another reason than want of memory names the stop
+abbrev pub StopsSo : List Lexeme → Span → Result Raw ParseError → Type 0
 StopsSo tokens end (Ok raw) = Unit {0}
 StopsSo tokens end (Err NoMemory) = Unit {0}
-StopsSo tokens end (Err (Syntax span)) = (stop : List Lexeme) × StopsAt first_form (map lexeme tokens) stop × (span ≡ place_at stop end)
+StopsSo tokens end (Err (Syntax span)) = IsRefused tokens end (Syntax span)
+StopsSo tokens end (Err (OutOfProfile span)) = IsRefused tokens end (OutOfProfile span)

@@ -1,6 +1,10 @@
 pub mod Words
-pub mod FirstForm
-pub mod FirstTree
-pub mod Size
+pub mod Tokens
+pub mod Values
+pub mod Calls
+pub mod Instrs
+pub mod Terms
+pub mod Module
 pub mod Reader
+pub mod Profile
 pub mod Answers

@@ -17,6 +17,11 @@ abbrev pub GivesToken : List Token → Result (Token × ℕ) Stop → Reading Le
 GivesToken tokens (Ok x) reading = reading ≡ Ok (lexeme x.0, map lexeme (drop x.1 tokens))
 GivesToken tokens (Err e) reading = reading ≡ Err (map lexeme (drop e.at tokens))
 
+-- the same, where nothing is kept
+abbrev pub Passes : List Token → Result ℕ Stop → Reading Lexeme (Unit {0}) → Type 0
+Passes tokens (Ok next) reading = reading ≡ Ok (tt, map lexeme (drop next tokens))
+Passes tokens (Err e) reading = reading ≡ Err (map lexeme (drop e.at tokens))
+
 -- the same, unless memory ran out
 abbrev pub GivesOrMemory : {A : Type 0} → List Token → Result (A × ℕ) Trouble → Reading Lexeme A → Type 0
 GivesOrMemory tokens (Ok x) reading = reading ≡ Ok (x.0, map lexeme (drop x.1 tokens))

@@ -1,9 +1,16 @@
 //! The trees that lists of tokens spell.
 #![tactic(auto)]
 
+mod calls;
+mod instrs;
+mod modules;
 mod parsing;
-mod reading;
+mod profile;
+mod terms;
+#[cfg(test)]
+mod tests;
 mod tokens;
+mod values;
 mod words;
 
-pub use parsing::{ParseError, one_reading, parse, spelled_trees};
+pub use parsing::{ParseError, one_reading, parse};

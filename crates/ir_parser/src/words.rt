@@ -49,7 +49,8 @@ fn number_of_name(digits: &[u8]) -> u32
     u32::try_from(number(digits)).unwrap_or(u32::MAX)
 }
 
-fn are_digits(bytes: &[u8]) -> bool
+/// Whether each byte is a digit.
+pub fn are_digits(bytes: &[u8]) -> bool
     ensures { result ≡ list_all is_digit bytes.now }
 {
     bytes.iter().all(|b| is_digit(*b))
@@ -72,6 +73,13 @@ fn behind_sigil<'a>(text: &'a [u8]) -> &'a [u8]
         [_, name @ ..] => name,
         [] => text,
     }
+}
+
+/// Whether only digits stand behind the sign.
+pub fn is_numbered(text: &[u8]) -> bool
+    ensures { result ≡ list_all is_digit (drop 1 text.now) }
+{
+    are_digits(behind_sigil(text))
 }
 
 /// The name of a local.
