@@ -15,6 +15,12 @@ pub fn can_trap(op: Op, divisor: Option<u64>) -> bool
     ensures exact { IsTrue result ↔ CanTrap op divisor }
     ensures test { result ≡ traps_at op divisor }
 {
+    is_trapping(op, divisor)
+}
+
+fn is_trapping(op: Op, divisor: Option<u64>) -> bool
+    ensures { result ≡ traps_at op divisor }
+{
     match (op, divisor) {
         (Op::Bin(Bin::UDiv | Bin::URem | Bin::SDiv | Bin::SRem, _), None) => true,
         (Op::Bin(Bin::UDiv | Bin::URem, _), Some(divisor)) => divisor == 0,

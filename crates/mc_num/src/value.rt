@@ -1,6 +1,6 @@
 //! The values of operations.
 
-ghost use Rattle.std.specs.Prelude.{◌≡◌, ◌<◌, ◌+◌, ◌-◌, ◌*◌, ◌/◌, ◌%◌, ◌^◌, IfOk, Ok, pos, int_div, int_rem, FitsSigned};
+ghost use Rattle.std.specs.Prelude.{◌≡◌, ◌==◌, ◌&&◌, ◌<◌, ◌+◌, ◌-◌, ◌*◌, ◌/◌, ◌%◌, ◌^◌, IfOk, Ok, pos, int_div, int_rem, FitsSigned};
 ghost use Rattle.mc_num.specs.Op.{IsWellFormedOp, argument_widths, bits, result_width};
 ghost use Rattle.mc_num.specs.Value.{HaveWidths, binary_value, cast_value, compares, least, minus_one, modulo, shifted_left, shifted_right, sign_shifted, signed, signed_by, value_of};
 
@@ -52,7 +52,7 @@ fn signed_quotient(width: Width, x: u64, y: u64) -> Result<u64, Trap>
 {
     if y == 0 {
         Err(Trap::DivZero)
-    } else if x == sign_bit(width) && y == all_ones(width) {
+    } else if overflows(width, x, y) {
         Err(Trap::DivOverflow)
     } else {
         Ok(from_signed(width, to_signed(width, x) / to_signed(width, y)))
@@ -66,11 +66,17 @@ fn signed_remainder(width: Width, x: u64, y: u64) -> Result<u64, Trap>
 {
     if y == 0 {
         Err(Trap::DivZero)
-    } else if x == sign_bit(width) && y == all_ones(width) {
+    } else if overflows(width, x, y) {
         Err(Trap::DivOverflow)
     } else {
         Ok(from_signed(width, to_signed(width, x) % to_signed(width, y)))
     }
+}
+
+fn overflows(width: Width, x: u64, y: u64) -> bool
+    ensures { result ≡ ((x == least width) && (y == minus_one width)) }
+{
+    x == sign_bit(width) && y == all_ones(width)
 }
 
 fn left_shift(width: Width, x: u64, y: u64) -> u64
