@@ -1,14 +1,13 @@
 -- The value of an operation is below 2 to its width.
-use Rattle.std.proofs.Common.{◌≡◌, ℕ, ◌+◌, ◌-◌, ◌*◌, ◌/◌, ◌%◌, ◌^◌, ◌<◌, ◌≤◌, Bool, true, false, List, [], ◌∷◌, Result, Ok, Err, IfOk, ℤ, pos, negsuc, ◌+ℤ◌, ◌-ℤ◌, ◌*ℤ◌, arith, nat_lt, nat_eq, ◌==◌, ◌&&◌, if◌then◌else◌, int_div, int_rem, subst, sym, get_or, bit_and}
+use Rattle.std.proofs.Common.{◌≡◌, ℕ, ◌*◌, ◌/◌, ◌%◌, ◌^◌, ◌<◌, ◌≤◌, Bool, true, false, List, [], ◌∷◌, Result, Ok, Err, IfOk, ℤ, pos, negsuc, ◌+ℤ◌, ◌-ℤ◌, ◌*ℤ◌, arith, nat_lt, ◌==◌, ◌&&◌, if◌then◌else◌, int_div, int_rem, subst, sym, get_or, bit_and}
 use Rattle.std.proofs.lemmas.Nat.{or_lt, xor_lt, and_le_l, mod_below, pow_below}
 use Rattle.std.proofs.Math.Nat.{div-le_self, mod-le}
 use Rattle.mc_num.specs.Op.{bits, argument_widths, result_width, IsWellFormedOp}
-use Rattle.mc_num.specs.Value.{value_of, binary_value, compares, cast_value, modulo, signed, HaveWidths, unsigned_by, signed_by, shifted_left, shifted_right, sign_shifted, halved, least, minus_one}
+use Rattle.mc_num.specs.Value.{value_of, binary_value, compares, cast_value, modulo, signed, HaveWidths, signed_by, halved, least, minus_one}
 use Rattle.mc_num.specs.declared.op.Width.{Width}
 use Rattle.mc_num.specs.declared.op.Width.TheVariants.{I1, I8, I16, I32, I64}
 use Rattle.mc_num.specs.declared.op.Bin as operations
 use Rattle.mc_num.specs.declared.op.Bin.TheVariants.{Add, Sub, Mul, UDiv, SDiv, URem, SRem, Shl, LShr, AShr, And, Or, Xor}
-use Rattle.mc_num.specs.declared.op.Pred.{Pred}
 use Rattle.mc_num.specs.declared.op.Cast as casts
 use Rattle.mc_num.specs.declared.op.Cast.TheVariants.{Zext, Sext, Trunc, Bitcast}
 use Rattle.mc_num.specs.declared.op.Op.{Op}

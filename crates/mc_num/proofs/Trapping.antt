@@ -1,8 +1,8 @@
 -- Some arguments that agree with a known divisor trap exactly where the divisor's own test says so.
-use Rattle.std.proofs.Common.{◌≡◌, ℕ, ◌+◌, ◌-◌, ◌*◌, ◌/◌, ◌%◌, ◌^◌, ◌<◌, ◌≤◌, ◌↔◌, IsTrue, Bool, true, false, List, [], ◌∷◌, Option, Some, None, Result, Ok, Err, ℤ, pos, arith, nat_eq, ◌==◌, ◌&&◌, ◌||◌, if◌then◌else◌, refl, slice_get, int_div, int_rem, sym, ap, ◌∙◌, subst, get_or}
+use Rattle.std.proofs.Common.{◌≡◌, ℕ, ◌/◌, ◌%◌, ◌^◌, ◌<◌, ◌↔◌, IsTrue, Bool, true, false, List, [], ◌∷◌, Option, Some, None, Result, Ok, Err, arith, ◌==◌, ◌&&◌, ◌||◌, if◌then◌else◌, refl, slice_get, int_div, int_rem, sym, ◌∙◌, subst}
 use Rattle.std.proofs.lemmas.Bool.Decides.{nat_tests}
 use Rattle.mc_num.specs.Op.{bits, argument_widths}
-use Rattle.mc_num.specs.Value.{value_of, HaveWidths, AgreeWith, CanTrap, DivisorFits, traps_at, least, minus_one, unsigned_by, signed_by, binary_value, is_zero_or_unknown, is_minus_one, signed, modulo}
+use Rattle.mc_num.specs.Value.{value_of, HaveWidths, AgreeWith, CanTrap, DivisorFits, traps_at, least, minus_one, binary_value, signed, modulo}
 use Rattle.mc_num.specs.declared.op.Width.{Width}
 use Rattle.mc_num.specs.declared.op.Width.TheVariants.{I1, I8, I16, I32, I64}
 use Rattle.mc_num.specs.declared.op.Bin as operations

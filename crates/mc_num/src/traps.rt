@@ -4,8 +4,8 @@ ghost use Rattle.std.specs.Prelude.{◌≡◌, ◌↔◌, IsTrue};
 ghost use Rattle.mc_num.specs.Op.{IsWellFormedOp};
 ghost use Rattle.mc_num.specs.Value.{CanTrap, DivisorFits, traps_at};
 
-use crate::value::all_ones;
 use crate::op::{Bin, Op};
+use crate::value::all_ones;
 
 /// Whether the operation traps at some arguments that agree with the divisor, where that is a known constant: it does where
 /// it is a division or a remainder whose divisor is unknown, or 0, or, if it is signed, -1. No memory.
@@ -24,7 +24,8 @@ fn is_trapping(op: Op, divisor: Option<u64>) -> bool
     match (op, divisor) {
         (Op::Bin(Bin::UDiv | Bin::URem | Bin::SDiv | Bin::SRem, _), None) => true,
         (Op::Bin(Bin::UDiv | Bin::URem, _), Some(divisor)) => divisor == 0,
-        (Op::Bin(Bin::SDiv | Bin::SRem, width), Some(divisor)) => divisor == 0 || divisor == all_ones(width),
+        (Op::Bin(Bin::SDiv | Bin::SRem, width), Some(divisor)) => divisor == 0
+            || divisor == all_ones(width),
         _ => false,
     }
 }

@@ -32,8 +32,16 @@ fn binary(bin: Bin, width: Width, x: u64, y: u64) -> Result<u64, Trap>
         Bin::Add => Ok(low_bits(width, x.wrapping_add(y))),
         Bin::Sub => Ok(low_bits(width, x.wrapping_sub(y))),
         Bin::Mul => Ok(low_bits(width, x.wrapping_mul(y))),
-        Bin::UDiv => if y == 0 { Err(Trap::DivZero) } else { Ok(x / y) },
-        Bin::URem => if y == 0 { Err(Trap::DivZero) } else { Ok(x % y) },
+        Bin::UDiv => if y == 0 {
+            Err(Trap::DivZero)
+        } else {
+            Ok(x / y)
+        },
+        Bin::URem => if y == 0 {
+            Err(Trap::DivZero)
+        } else {
+            Ok(x % y)
+        },
         Bin::SDiv => signed_quotient(width, x, y),
         Bin::SRem => signed_remainder(width, x, y),
         Bin::Shl => Ok(left_shift(width, x, y)),
@@ -83,14 +91,22 @@ fn left_shift(width: Width, x: u64, y: u64) -> u64
     requires { x < 2 ^ bits width }
     ensures { result ≡ shifted_left width x y }
 {
-    if y < u64::from(bits(width)) { low_bits(width, x << y) } else { 0 }
+    if y < u64::from(bits(width)) {
+        low_bits(width, x << y)
+    } else {
+        0
+    }
 }
 
 fn right_shift(width: Width, x: u64, y: u64) -> u64
     requires { x < 2 ^ bits width }
     ensures { result ≡ shifted_right width x y }
 {
-    if y < u64::from(bits(width)) { x >> y } else { 0 }
+    if y < u64::from(bits(width)) {
+        x >> y
+    } else {
+        0
+    }
 }
 
 fn sign_shift(width: Width, x: u64, y: u64) -> u64
@@ -138,13 +154,21 @@ fn to_signed(width: Width, x: u64) -> i64
     requires { x < 2 ^ bits width }
     ensures { result ≡ signed width x }
 {
-    if x < sign_bit(width) { x as i64 } else { -1 - (all_ones(width) - x) as i64 }
+    if x < sign_bit(width) {
+        x as i64
+    } else {
+        -1 - (all_ones(width) - x) as i64
+    }
 }
 
 fn from_signed(width: Width, x: i64) -> u64
     ensures { result ≡ modulo width x }
 {
-    if x >= 0 { low_bits(width, x as u64) } else { all_ones(width) - low_bits(width, (-1 - x) as u64) }
+    if x >= 0 {
+        low_bits(width, x as u64)
+    } else {
+        all_ones(width) - low_bits(width, (-1 - x) as u64)
+    }
 }
 
 fn sign_bit(width: Width) -> u64

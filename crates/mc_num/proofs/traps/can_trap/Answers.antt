@@ -1,4 +1,3 @@
-use Rattle.std.proofs.Common.{◌≡◌}
 use Rattle.mc_num.proofs.Trapping.{traps_exactly}
 use Rattle.mc_num.proofs.traps.can_trap.Goals as goal
 

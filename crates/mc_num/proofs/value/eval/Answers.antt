@@ -1,5 +1,3 @@
-use Rattle.std.proofs.Common.{rules, ◌≡◌, ◌<◌, ◌^◌, ℕ, IfOk, subst, sym, get_or}
-use Rattle.mc_num.specs.Op.{bits, result_width}
 use Rattle.mc_num.proofs.Bounds.{bounded_binary}
 use Rattle.mc_num.proofs.value.eval.Goals as goal
 

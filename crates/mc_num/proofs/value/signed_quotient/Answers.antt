@@ -1,4 +1,4 @@
-use Rattle.std.proofs.Common.{rules, ◌≡◌, ap, ◌∙◌, int_div, w64, FitsSigned}
+use Rattle.std.proofs.Common.{rules, ap, ◌∙◌, int_div, w64, FitsSigned}
 use Rattle.std.proofs.lemmas.Int.{quot_is}
 use Rattle.mc_num.specs.Value.{modulo}
 use Rattle.mc_num.proofs.Signed.{no_overflow, quotient_in_word, signed_gives}

@@ -1,4 +1,4 @@
-use Rattle.std.proofs.Common.{rules, ◌≡◌, ap, ◌∙◌, int_rem, w64, FitsSigned}
+use Rattle.std.proofs.Common.{rules, ap, ◌∙◌, int_rem, w64, FitsSigned}
 use Rattle.std.proofs.lemmas.Int.{rem_is}
 use Rattle.mc_num.specs.Value.{modulo}
 use Rattle.mc_num.proofs.Signed.{signed_gives}
