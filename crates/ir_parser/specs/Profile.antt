@@ -1,5 +1,5 @@
--- What a text of the whole language may have where this grammar can't go on: then the stop is out of the profile,
--- and otherwise it is an error of syntax.
+-- What LLVM's language has and this grammar doesn't: a stop at such a token is out of the profile, and any other stop
+-- is an error of syntax.
 use Rattle.std.specs.Prelude.{◌≡◌, ℕ, Bool, ◌&&◌, ◌||◌, not, ◌==◌, ◌⊎◌, List, [], ◌∷◌, ◌++◌, length, drop, IsTrue, codes}
 use Rattle.std.specs.Str.{bytes_eq}
 use Rattle.std.specs.List.{list_all, list_any}
