@@ -214,14 +214,14 @@ define i32 @main(i1 %c) { %a = alloca i32 store i32 undef, ptr %a %x = load i32,
 %u = call i32 @f(i32 noundef %v, ptr %a) #1 br i1 %w, label %l, label %m
 l: switch i32 %u, label %m [ i32 1, label %m ] m: %p = phi i32 [ 0, %l ], [ %u, %0 ], align 1 ret i32 %p }";
     let end = end_of(text);
-    let mut whole = 0;
+    let mut whole: u32 = 0;
     let mut tokens = Vec::new(rt.alloc());
     if let Ok(lexed) = lex(rt.alloc(), text) {
         tokens = lexed;
     }
     for count in 0..=tokens.len() {
         match ending_of(rt.alloc(), front(&tokens, count), end) {
-            Ending::Read => whole += 1,
+            Ending::Read => whole = whole.saturating_add(1),
             other => assert_eq!(rt; other, Ending::Syntax(end.start), "of {count} tokens"),
         }
     }
