@@ -1,13 +1,13 @@
 -- Parts of what instructions and terminators become, and of what is wrong with them.
-use Rattle.std.specs.Prelude.{ℕ, ◌&&◌, not, Bool, List, [], ◌∷◌, length, map, Option, Some, None, if◌then◌else◌}
+use Rattle.std.specs.Prelude.{◌&&◌, not, List, [], ◌∷◌, map, Option, Some, None, if◌then◌else◌}
 use Rattle.mc_num.specs.declared.op.Width.{Width}
 use Rattle.mc_num.specs.declared.op.Width.TheVariants.{I1}
 use Rattle.ir_types.specs.Problems.{◌>>◌, broken}
 use Rattle.ir_types.specs.Definitions.{Defined, name_of, nothing}
 use Rattle.ir_types.specs.Rules.{Reached, at_body, body_problem, context_in, is_known_external, is_nil}
 use Rattle.ir_types.specs.Limits.{is_above_limits}
-use Rattle.ir_types.specs.Uses.{Context, same_width, value_problem, label_problem, cases_problem, callee_problem, arguments_problem, params_of}
-use Rattle.ir_types.specs.ModuleOf.{gives, operand_of, argument_of, function_number, target_of, case_of, width_of, numbered_from, params_from, variables_from, blocks_from}
+use Rattle.ir_types.specs.Uses.{Context, same_width, value_problem, label_problem, cases_problem}
+use Rattle.ir_types.specs.ModuleOf.{gives, operand_of, target_of, case_of, width_of, numbered_from, params_from, variables_from, blocks_from}
 use Rattle.ir_types.specs.declared.span.At.{At}
 use Rattle.ir_types.specs.declared.name.Name.{Name}
 use Rattle.ir_types.specs.declared.rules.Here.{Here}
@@ -15,16 +15,12 @@ use Rattle.ir_types.specs.declared.rules.Problem.{Problem}
 use Rattle.ir_types.specs.declared.rules.Rule.TheVariants.{BadType, UnknownExternal, Limit}
 use Rattle.ir_types.specs.declared.syntax.Function.{Function}
 use Rattle.ir_types.specs.declared.syntax.Operand.{Operand}
-use Rattle.ir_types.specs.declared.syntax.Kind.{Kind}
-use Rattle.ir_types.specs.declared.syntax.Kind.TheVariants.{Call}
 use Rattle.ir_types.specs.declared.syntax.Terminator.{Terminator}
 use Rattle.ir_types.specs.declared.syntax.Terminator.TheVariants.{Switch}
 use Rattle.ir_types.specs.declared.tree.RawValue.{RawValue}
-use Rattle.ir_types.specs.declared.tree.RawArg.{RawArg}
 use Rattle.ir_types.specs.declared.tree.RawFunction.{RawFunction}
 use Rattle.ir_types.specs.declared.tree.RawInstr.{RawInstr}
 use Rattle.ir_types.specs.declared.tree.RawCase.{RawCase}
-use Rattle.ir_types.specs.declared.tree.Ty.{Ty}
 
 -- two values of one width
 abbrev pub pair_problem : Context → Here → Width → At RawValue → At RawValue → Option Problem
