@@ -22,14 +22,15 @@ use Rattle.ir_types.specs.declared.tree.RawFunction.{RawFunction}
 use Rattle.ir_types.specs.declared.tree.RawInstr.{RawInstr}
 use Rattle.ir_types.specs.declared.tree.RawCase.{RawCase}
 
--- two values of one width
+-- what is wrong with two values of one width
 abbrev pub pair_problem : Context → Here → Width → At RawValue → At RawValue → Option Problem
 pair_problem c here w one other = value_problem c here w one >> value_problem c here w other
 
+-- the operands that they stand for
 abbrev pub pair_of : Context → Width → RawValue → RawValue → List Operand
 pair_of c w one other = operand_of c w one ∷ operand_of c w other ∷ []
 
--- a condition, a value, the type written for the other value, and that value
+-- what is wrong with a condition, a value, the type written for the other value, or that value
 abbrev pub choice_problem : Context → Here → Width → At RawValue → At RawValue → At Width → At RawValue → Option Problem
 choice_problem c here w test one second other =
     value_problem c here I1 test >> value_problem c here w one >>
@@ -39,10 +40,11 @@ choice_problem c here w test one second other =
 abbrev pub result_of : Reached → RawInstr → Option Name
 result_of r x = if gives x.kind then Some (name_of r.before x.result) else None
 
--- the value, the label without a case, and then the cases
+-- what is wrong with the value of a switch, the label that stands without a case, or the cases
 abbrev pub switch_problem : Context → Here → Width → At RawValue → At Name → List RawCase → Option Problem
 switch_problem c here w v other cases = value_problem c here w v >> label_problem c here other >> cases_problem c here w [] cases
 
+-- the switch that they make
 abbrev pub switch_of : Context → Width → RawValue → Name → List RawCase → Terminator
 switch_of c w v other cases = Switch w (operand_of c w v) (target_of c other) (map (case_of c w) cases)
 
