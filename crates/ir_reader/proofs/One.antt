@@ -4,12 +4,10 @@ use Rattle.ir_types.specs.Program.{Program}
 use Rattle.ir_types.specs.ModuleOf.{module_of}
 use Rattle.ir_types.specs.Rules.{tree_problem}
 use Rattle.ir_types.specs.declared.rules.Problem.{Problem}
-use Rattle.ir_types.specs.declared.span.Span.{Span}
-use Rattle.ir_types.specs.declared.tree.Raw.{Raw}
 use Rattle.ir_lexer.specs.Lexeme.{Lexeme}
-use Rattle.ir_lexer.specs.Tokens.{Lexing, Wrong, tokens_of, end_of}
+use Rattle.ir_lexer.specs.Tokens.{Lexing, Wrong, end_of}
 use Rattle.grammar.specs.Grammar.{SpellsAll, StopsAt, IsDetermined}
-use Rattle.ir_parser.specs.Answers.{IsRefused, Names, place_at}
+use Rattle.ir_parser.specs.Answers.{place_at}
 use Rattle.ir_parser.specs.Module.{module_text}
 use Rattle.ir_parser.specs.Profile.{IsOutOfProfile}
 use Rattle.ir_parser.specs.declared.parsing.ParseError.{ParseError}

@@ -1,9 +1,8 @@
 -- What the parts of reading answer, as the answer of the whole.
-use Rattle.std.proofs.Common.{◌≡◌, ℕ, List, Some, None, Ok, Err, refl}
+use Rattle.std.proofs.Common.{◌≡◌, ℕ, List, None, Ok, Err}
 use Rattle.ir_types.specs.Program.{Program}
 use Rattle.ir_types.specs.ModuleOf.{module_of}
 use Rattle.ir_types.specs.Rules.{tree_problem}
-use Rattle.ir_types.specs.declared.span.Span.{Span}
 use Rattle.ir_types.specs.declared.tree.Raw.{Raw}
 use Rattle.ir_lexer.specs.Lexeme.{Lexeme}
 use Rattle.ir_lexer.specs.Tokens.{GivesTokens, tokens_of, end_of}
@@ -19,7 +18,7 @@ use Rattle.ir_uses.specs.Answers.{Tells as TellsProblem}
 use Rattle.ir_uses.specs.declared.error.CheckError.{CheckError}
 use Rattle.ir_uses.specs.declared.error.CheckError.TheVariants as check
 use Rattle.ir_reader.specs.Causes.{cause_of_lex, cause_of_parse, cause_of_check}
-use Rattle.ir_reader.specs.Reading.{HasTree, Stops, Reads, Refuses, Tells}
+use Rattle.ir_reader.specs.Reading.{Reads, Refuses, Tells}
 use Rattle.ir_reader.specs.declared.reading.ReadError.{ReadError}
 
 -- an error of a part is the refusal

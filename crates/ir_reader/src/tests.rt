@@ -1,4 +1,5 @@
 use super::*;
+use ir_lexer::lex;
 use ir_printer::print;
 use ir_types::duplicate::Duplicate;
 use ir_types::rules::{Problem, Rule};
@@ -74,4 +75,33 @@ fn other_texts_are_refused_at_their_places(rt: HostRuntime) {
         let answer = read(rt.alloc(), text);
         assert!(rt; matches!(answer, Err(ReadError::Refused(found)) if found == refusal));
     }
+}
+
+#[test]
+fn tokens_and_names_are_slices_of_the_text(rt: HostRuntime) -> Result<(), Fail> {
+    let text = Vec::from_slice(rt.alloc(), b"define i32 @main(){ret i32 0}")?;
+    assert!(rt; text.len() < 1000);
+    let wanted = [
+        (0, 6),
+        (7, 10),
+        (11, 16),
+        (16, 17),
+        (17, 18),
+        (18, 19),
+        (19, 22),
+        (23, 26),
+        (27, 28),
+        (28, 29),
+    ];
+    let tokens = lex(rt.alloc(), &text)?;
+    assert_eq!(rt; tokens.len(), wanted.len());
+    for (token, (start, end)) in tokens.iter().zip(wanted) {
+        assert_eq!(rt; token.span, span(1, start, end));
+    }
+    let program = read(rt.alloc(), &text)?;
+    match program.functions() {
+        [main] => assert_eq!(rt; main.name.bytes(), &text[12..16]),
+        _ => assert!(rt; false),
+    }
+    Ok(())
 }

@@ -1,5 +1,5 @@
 -- The text of blocks, functions and modules, as that of tokens with the blanks behind them.
-use Rattle.std.proofs.Common.{◌≡◌, ℕ, Bool, true, false, List, [], ◌∷◌, ◌++◌, Option, Some, None, codes, map, slice_get, refl, sym, ap, ◌∙◌, append_assoc, append-nil}
+use Rattle.std.proofs.Common.{◌≡◌, ℕ, true, false, List, [], ◌∷◌, ◌++◌, Option, Some, None, codes, map, refl, sym, ap, ◌∙◌, append_assoc, append-nil}
 use Rattle.std.specs.List.{AllByRecursion, flat_map}
 use Rattle.std.specs.Option.{option_map_or}
 use Rattle.mc_num.specs.declared.op.Width.{Width}
@@ -9,7 +9,6 @@ use Rattle.ir_types.specs.Program.{Program}
 use Rattle.ir_types.specs.Rules.{is_nil}
 use Rattle.ir_types.specs.declared.name.Name.{Name}
 use Rattle.ir_types.specs.declared.syntax.Operand.{Operand}
-use Rattle.ir_types.specs.declared.syntax.Instr.{Instr}
 use Rattle.ir_types.specs.declared.syntax.Terminator.{Terminator}
 use Rattle.ir_types.specs.declared.syntax.Terminator.TheVariants.{Return, Jump, Branch, Switch, Unreachable}
 use Rattle.ir_types.specs.declared.syntax.Block.{Block}
@@ -17,9 +16,9 @@ use Rattle.ir_types.specs.declared.syntax.Function.{Function}
 use Rattle.ir_types.specs.declared.syntax.Global.{Global}
 use Rattle.ir_lexer.specs.Texts.{Inked}
 use Rattle.ir_lexer.specs.Texts.{text_of as inked}
-use Rattle.ir_printer.specs.Text.{width_text, type_text, local_text, global_text, constant_text, value_text, typed_text, label_text, separated, listed, alloca_line, instr_line, case_text, term_text, term_line, block_text, blocks_text, type_of_param, param_text, head_text, function_with, function_text, global_line, text_of}
-use Rattle.printed_trees.proofs.Put.{IsPutInstr, IsPutTerm, IsPutBlock, IsPutFunction, IsPutModule}
-use Rattle.printed_trees.proofs.Scripts.{indented, line, typed, target, block_name, instrs_script, allocas_script, case_script, cases_script, returned, term_script, block_script, later_blocks, type_script, param_script, more_params, params_script, head_script, function_script, gap_before, functions_script, global_script, globals_script, script_of}
+use Rattle.ir_printer.specs.Text.{width_text, type_text, global_text, constant_text, value_text, typed_text, label_text, separated, listed, alloca_line, instr_line, case_text, term_text, block_text, type_of_param, param_text, head_text, function_with, function_text, global_line, text_of}
+use Rattle.printed_trees.proofs.Put.{IsPutTerm, IsPutBlock, IsPutFunction, IsPutModule}
+use Rattle.printed_trees.proofs.Scripts.{indented, line, target, block_name, cases_script, returned, term_script, block_script, later_blocks, type_script, param_script, more_params, params_script, head_script, function_script, gap_before, functions_script, global_script, globals_script, script_of}
 use Rattle.printed_trees.proofs.Lines.{behind, typed_is, instrs_are, allocas_are}
 
 module _ (f : Function) (b : Block) where

@@ -1,18 +1,18 @@
 -- What the rules of a module say of the parts that are printed.
-use Rattle.std.proofs.Common.{◌≡◌, ◌<◌, ◌^◌, ℕ, suc, zero, ◌↔◌, List, [], ◌∷◌, ◌++◌, map, take, get_or, length, Option, Some, None, IsSome, refl, sym, ap, subst, ◌∙◌, arith}
-use Rattle.std.specs.Prelude.{IsSomeAnd, IfSome, slice_get, option_and_then, option_map, filter_map, All}
-use Rattle.std.specs.List.{AllZip, AllByRecursion, cons_option, flat_map}
-use Rattle.std.proofs.lemmas.List.Elements.{recursion_from_All, All-from_recursion}
-use Rattle.std.proofs.lemmas.Option.{slice_get-get_or, slice_get-map}
+use Rattle.std.proofs.Common.{◌≡◌, ◌<◌, ◌^◌, ℕ, suc, zero, List, [], ◌∷◌, ◌++◌, map, take, get_or, length, Option, Some, None, IsSome, refl, sym, ap, subst, ◌∙◌, arith}
+use Rattle.std.specs.Prelude.{IsSomeAnd, IfSome, slice_get, option_and_then, option_map, filter_map}
+use Rattle.std.specs.List.{AllZip, AllByRecursion, cons_option}
+use Rattle.std.proofs.lemmas.List.Elements.{recursion_from_All}
+use Rattle.std.proofs.lemmas.Option.{slice_get-get_or}
 use Rattle.mc_num.specs.Op.{bits, argument_widths}
 use Rattle.mc_num.specs.declared.op.Width.{Width}
 use Rattle.mc_num.specs.declared.op.Width.TheVariants.{I1}
 use Rattle.mc_num.specs.declared.op.Op.{Op}
 use Rattle.mc_num.specs.declared.op.Op.TheVariants.{Bin, Icmp, Cast, Select}
-use Rattle.ir_types.specs.Names.{IsNameText, IsSpellable}
+use Rattle.ir_types.specs.Names.{IsSpellable}
 use Rattle.ir_types.specs.Program.{Program}
-use Rattle.ir_types.specs.WellFormed.{Scope, Signature, signature, scope, widths, variable_width, given_by, HasWidth, Fits, Ends, AreCases, targets, IsNamed, IsBlockIn, IsFunctionIn, IsGlobal, IsWellFormed, names, body_names, block_names, result_names}
-use Rattle.ir_types.specs.TreeOf.{register_name, operand_name}
+use Rattle.ir_types.specs.WellFormed.{Signature, signature, scope, widths, variable_width, given_by, HasWidth, Fits, Ends, targets, IsNamed, IsBlockIn, IsFunctionIn, IsGlobal, IsWellFormed, names, body_names, block_names, result_names}
+use Rattle.ir_types.specs.TreeOf.{register_name}
 use Rattle.ir_types.specs.declared.name.Name.{Name}
 use Rattle.ir_types.specs.declared.syntax.Operand.{Operand}
 use Rattle.ir_types.specs.declared.syntax.Operand.TheVariants.{Const, Param, Reg}

@@ -1,28 +1,24 @@
 -- The canonical text of a module is that of its tokens with the blanks behind them.
-use Rattle.std.proofs.Common.{◌≡◌, ℕ, false, List, [], ◌∷◌, ◌++◌, Option, Some, None, codes, map, slice_get, refl, sym, ap, ◌∙◌, append_assoc, append-nil}
+use Rattle.std.proofs.Common.{◌≡◌, ℕ, false, List, [], ◌∷◌, ◌++◌, Option, Some, None, codes, slice_get, refl, sym, ap, ◌∙◌, append_assoc}
 use Rattle.std.specs.List.{AllByRecursion, flat_map}
 use Rattle.std.specs.Option.{option_map_or}
 use Rattle.mc_num.specs.declared.op.Width.{Width}
 use Rattle.mc_num.specs.declared.op.Width.TheVariants.{I1}
 use Rattle.mc_num.specs.declared.op.Op.{Op}
 use Rattle.mc_num.specs.declared.op.Op.TheVariants as op
-use Rattle.ir_types.specs.Names.{name_text}
 use Rattle.ir_types.specs.Program.{Program}
 use Rattle.ir_types.specs.declared.name.Name.{Name}
 use Rattle.ir_types.specs.declared.syntax.Operand.{Operand}
-use Rattle.ir_types.specs.declared.syntax.Variable.{Variable}
 use Rattle.ir_types.specs.declared.syntax.Kind.{Kind}
 use Rattle.ir_types.specs.declared.syntax.Kind.TheVariants.{Load, Store, Compute, Call}
 use Rattle.ir_types.specs.declared.syntax.Instr.{Instr}
-use Rattle.ir_types.specs.declared.syntax.Terminator.{Terminator}
-use Rattle.ir_types.specs.declared.syntax.Terminator.TheVariants.{Return, Jump, Branch, Switch, Unreachable}
 use Rattle.ir_types.specs.declared.syntax.Block.{Block}
 use Rattle.ir_types.specs.declared.syntax.Function.{Function}
 use Rattle.ir_lexer.specs.Texts.{Inked}
 use Rattle.ir_lexer.specs.Texts.{text_of as inked}
-use Rattle.ir_printer.specs.Text.{width_text, type_text, bin_text, pred_text, cast_text, local_text, global_text, constant_text, value_text, typed_text, variable_type, variable_text, label_text, operands_text, cast_operand_text, choices_text, operation_text, separated, listed, arguments_texts, call_text, kind_text, result_text, alloca_line, instr_line, case_text, term_text}
-use Rattle.printed_trees.proofs.Put.{ArePutTwo, IsPutOne, ArePutThree, IsPutOperation, ArePutArguments, IsPutKind, IsPutInstr, IsPutTerm}
-use Rattle.printed_trees.proofs.Scripts.{indented, line, typed, address, target, operands, cast_operand, choices, operation, more_arguments, arguments, call, call_of, kind_script, result_script, instr_script, instrs_script, alloca_script, allocas_script, case_script, cases_script, returned, term_script}
+use Rattle.ir_printer.specs.Text.{width_text, type_text, bin_text, pred_text, cast_text, local_text, global_text, value_text, typed_text, variable_type, variable_text, operands_text, cast_operand_text, choices_text, operation_text, separated, listed, arguments_texts, call_text, kind_text, result_text, alloca_line, instr_line}
+use Rattle.printed_trees.proofs.Put.{ArePutTwo, IsPutOne, ArePutThree, IsPutOperation, IsPutKind, IsPutInstr}
+use Rattle.printed_trees.proofs.Scripts.{indented, typed, operands, cast_operand, choices, operation, more_arguments, arguments, call, call_of, kind_script, result_script, instr_script, instrs_script, allocas_script}
 
 three_values : (test w one other rest : List ℕ) →
     codes "i1 " ++ ((test ++ []) ++ (codes ", " ++ ((w ++ codes " ") ++ ((one ++ []) ++ (codes ", " ++ ((w ++ codes " ") ++ ((other ++ indented) ++ rest)))))))

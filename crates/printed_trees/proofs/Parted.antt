@@ -1,5 +1,5 @@
 -- The tokens of a canonical text are kept apart.
-use Rattle.std.proofs.Common.{◌≡◌, ◌<◌, ℕ, Bool, true, false, List, [], ◌∷◌, ◌++◌, Option, Some, None, codes, slice_get, lit<, refl, sym, ap, subst, ◌∙◌, inl, inr}
+use Rattle.std.proofs.Common.{◌≡◌, ℕ, Bool, true, false, List, [], ◌∷◌, ◌++◌, Option, Some, None, codes, slice_get, lit<, refl, sym, subst}
 use Rattle.std.specs.Prelude.{IfSome, IsTrue, ◌==◌, if◌then◌else◌}
 use Rattle.std.specs.List.{AllByRecursion, list_all}
 use Rattle.std.specs.Option.{option_map_or}
@@ -34,12 +34,11 @@ use Rattle.ir_types.specs.declared.syntax.Global.{Global}
 use Rattle.ir_lexer.specs.Pieces.{is_mark}
 use Rattle.ir_lexer.specs.Texts.{Inked, IsText, IsKept, Ends, IsParted}
 use Rattle.ir_lexer.specs.Texts.{text_of as inked}
-use Rattle.ir_lexer.specs.declared.token.TokenKind.{TokenKind}
 use Rattle.ir_lexer.specs.declared.token.TokenKind.TheVariants as kinds
 use Rattle.ir_printer.specs.Text.{width_text, type_text, bin_text, pred_text, cast_text, local_text, global_text, constant_text, value_text, variable_text}
 use Rattle.printed_trees.proofs.Names.{name_is, run_or_quoted, number_is}
 use Rattle.printed_trees.proofs.Put.{IsPutName, IsPutValue, IsPutVariable, IsPutTarget, ArePutTwo, IsPutOne, ArePutThree, IsPutOperation, ArePutArguments, IsPutKind, IsPutInstr, IsPutCase, IsPutTerm, IsPutBlock, IsPutFunction, IsPutGlobal, IsPutModule}
-use Rattle.printed_trees.proofs.Scripts.{ink, space, line, indented, word, punct, local, comma, constant_kind, value_kind, value_ink, typed, variable_kind, address, block_name, target, operands, cast_operand, choices, operation, more_arguments, arguments, call, call_of, kind_script, result_script, instr_script, instrs_script, alloca_script, allocas_script, case_script, cases_script, returned, term_script, block_script, later_blocks, type_script, param_script, more_params, params_script, head_script, function_script, gap_before, functions_script, global_script, globals_script, script_of}
+use Rattle.printed_trees.proofs.Scripts.{ink, space, line, indented, word, punct, local, comma, constant_kind, value_ink, typed, variable_kind, address, block_name, target, operands, cast_operand, choices, operation, more_arguments, arguments, call, call_of, kind_script, result_script, instrs_script, allocas_script, cases_script, returned, term_script, block_script, later_blocks, type_script, param_script, more_params, params_script, head_script, function_script, gap_before, functions_script, global_script, globals_script, script_of}
 
 -- the tokens are kept apart
 pub record Apart (is : List Inked) : Type 0 where

@@ -1,10 +1,9 @@
 -- Tokens of a script at whatever places, read to a tree of which something holds.
-use Rattle.std.proofs.Common.{◌≡◌, ℕ, zero, suc, ◌+◌, Bool, true, false, cond, List, [], ◌∷◌, ◌++◌, Option, Some, None, Ok, Err, refl, sym, ap, subst, ◌∙◌, arith}
-use Rattle.std.specs.List.{AllZip}
+use Rattle.std.proofs.Common.{◌≡◌, ℕ, suc, ◌+◌, Bool, true, false, cond, List, [], ◌∷◌, Some, None, Ok, refl, ap, ◌∙◌, arith}
 use Rattle.ir_types.specs.declared.span.Span.{Span}
 use Rattle.ir_lexer.specs.Lexeme.{Lexeme}
-use Rattle.ir_lexer.specs.Texts.{Bare, Inked}
-use Rattle.grammar.specs.Grammar.{Grammar, token, pair, choice, optional, repeated, gives, provided, is_next}
+use Rattle.ir_lexer.specs.Texts.{Inked}
+use Rattle.grammar.specs.Grammar.{token, pair, choice, optional, repeated, gives, is_next}
 use Rattle.grammar.specs.Reading.{Reading, ◌>>=◌, read, read_token}
 use Rattle.grammar.proofs.Rows.{read_more, read_ends}
 use Rattle.ir_parser.specs.Tokens.{G}

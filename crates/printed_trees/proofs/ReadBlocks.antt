@@ -1,15 +1,12 @@
 -- The blocks of a canonical text, read.
-use Rattle.std.proofs.Common.{◌≡◌, ◌<◌, ◌^◌, ℕ, Bool, true, false, ◌||◌, List, [], ◌∷◌, ◌++◌, Option, Some, None, codes, slice_get, refl, sym, ap, subst, ◌∙◌}
+use Rattle.std.proofs.Common.{◌≡◌, ℕ, true, false, List, [], ◌∷◌, ◌++◌, Option, Some, None, codes, refl, sym, ap, subst, ◌∙◌}
 use Rattle.std.specs.List.{AllByRecursion, AllZip}
-use Rattle.std.specs.Prelude.{IfSome}
-use Rattle.mc_num.specs.Op.{bits}
 use Rattle.mc_num.specs.declared.op.Width.{Width}
 use Rattle.mc_num.specs.declared.op.Width.TheVariants.{I1, I8, I16, I32, I64}
 use Rattle.mc_num.specs.declared.op.Op.TheVariants as op
 use Rattle.ir_types.specs.Names.{IsSpellable, spelled, name_text}
 use Rattle.ir_types.specs.Program.{Program}
 use Rattle.ir_types.specs.TreeOf.{literal_of, value_tree, label_tree, IsTreeResult, IsTreeInstr, IsTreeAlloca, IsTreeCase, IsTreeTerm, IsTreeBlock, AreTreeBlocks}
-use Rattle.ir_types.specs.declared.span.At.{At}
 use Rattle.ir_types.specs.declared.span.Span.{Span}
 use Rattle.ir_types.specs.declared.name.Name.{Name}
 use Rattle.ir_types.specs.declared.syntax.Operand.{Operand}
@@ -20,25 +17,23 @@ use Rattle.ir_types.specs.declared.syntax.Terminator.{Terminator}
 use Rattle.ir_types.specs.declared.syntax.Terminator.TheVariants.{Return, Jump, Branch, Switch, Unreachable}
 use Rattle.ir_types.specs.declared.syntax.Block.{Block}
 use Rattle.ir_types.specs.declared.syntax.Function.{Function}
-use Rattle.ir_types.specs.declared.tree.RawCase.{RawCase}
 use Rattle.ir_types.specs.declared.tree.RawInstr.{RawInstr}
 use Rattle.ir_types.specs.declared.tree.RawKind.TheVariants as forms
 use Rattle.ir_types.specs.declared.tree.RawTerm.{RawTerm}
-use Rattle.ir_types.specs.declared.tree.RawBlock.{RawBlock}
 use Rattle.ir_lexer.specs.Texts.{Inked}
 use Rattle.ir_lexer.specs.declared.token.TokenKind.TheVariants as kinds
-use Rattle.grammar.specs.Grammar.{Grammar, pair, gives, repeated, optional}
-use Rattle.ir_parser.specs.Words.{name_of, label_name}
-use Rattle.ir_parser.specs.Tokens.{G, ◌~◌, ◌▸◌, ◌◂◌, word, mark, comma, local}
-use Rattle.ir_parser.specs.Values.{int_type, value, cvalue, target, attach, attached, extra, detail}
+use Rattle.grammar.specs.Grammar.{gives, repeated}
+use Rattle.ir_parser.specs.Words.{name_of}
+use Rattle.ir_parser.specs.Tokens.{◌~◌, word}
+use Rattle.ir_parser.specs.Values.{int_type, target, attach, attached, extra, detail}
 use Rattle.ir_parser.specs.Calls.{call, call_word, phi}
 use Rattle.ir_parser.specs.Instrs.{alloca, load, binary, compare, convert, select, computing, giving, store, result_name, giving_instr, storing_instr, bare_instr, instr, instrs, binop, castop}
 use Rattle.ir_parser.specs.Terms.{returned, branched, switch_case, cases, switched, bare_term, term, label, block, blocks}
-use Rattle.ir_printer.specs.Text.{width_text, local_text, constant_text}
+use Rattle.ir_printer.specs.Text.{width_text, constant_text}
 use Rattle.printed_trees.proofs.Names.{name_back, label_back}
-use Rattle.printed_trees.proofs.Placed.{at_place, placed, Reads, Begins, one_token, both, made, second, first, left, right, no_option, some_option, none_more, one_more, weaker}
+use Rattle.printed_trees.proofs.Placed.{at_place, Reads, Begins, one_token, both, made, second, first, left, right, some_option, none_more, one_more, weaker}
 use Rattle.printed_trees.proofs.Put.{IsPutTarget, IsPutCase, IsPutTerm, IsPutKind, IsPutInstr, IsPutBlock}
-use Rattle.printed_trees.proofs.ReadValues.{type_reads, type_begins, word_reads, mark_reads, local_reads, constant_reads, value_reads, target_reads, no_attach}
+use Rattle.printed_trees.proofs.ReadValues.{type_reads, type_begins, word_reads, mark_reads, constant_reads, value_reads, target_reads, no_attach}
 use Rattle.printed_trees.proofs.ReadWords.{bin_no_extra, cast_no_extra}
 use Rattle.printed_trees.proofs.ReadInstrs.{Follows, comma_reads, typed_reads, instr_reads, instr_begins, result_reads, or_first}
 use Rattle.printed_trees.proofs.Scripts as script

@@ -1,5 +1,5 @@
 -- The instructions of a canonical text, read.
-use Rattle.std.proofs.Common.{◌≡◌, ℕ, Bool, true, false, cond, ◌||◌, ◌==◌, List, [], ◌∷◌, ◌++◌, Option, Some, None, codes, slice_get, refl, sym, ap, subst, ◌∙◌}
+use Rattle.std.proofs.Common.{◌≡◌, ℕ, Bool, true, false, cond, ◌||◌, ◌==◌, List, [], ◌∷◌, Option, Some, None, codes, slice_get, refl, sym, ap, subst, ◌∙◌}
 use Rattle.std.specs.Prelude.{IfSome}
 use Rattle.std.specs.List.{AllByRecursion, AllZip}
 use Rattle.std.specs.Option.{option_map_or}
@@ -9,10 +9,10 @@ use Rattle.mc_num.specs.declared.op.Bin.{Bin}
 use Rattle.mc_num.specs.declared.op.Cast.{Cast}
 use Rattle.mc_num.specs.declared.op.Op.{Op}
 use Rattle.mc_num.specs.declared.op.Op.TheVariants as op
-use Rattle.ir_types.specs.Names.{IsNameText, IsSpellable, spelled}
+use Rattle.ir_types.specs.Names.{IsNameText, IsSpellable}
 use Rattle.ir_types.specs.Program.{Program}
 use Rattle.ir_types.specs.WellFormed.{scope, variable_width, widths}
-use Rattle.ir_types.specs.TreeOf.{value_tree, address_tree, type_tree, AreTreeArguments, IsTreeCall, AreTreeOperands, IsTreeKind, IsTreeResult, IsTreeInstr, IsTreeAlloca}
+use Rattle.ir_types.specs.TreeOf.{value_tree, address_tree, type_tree, AreTreeArguments, IsTreeKind, IsTreeResult, IsTreeInstr}
 use Rattle.ir_types.specs.declared.span.At.{At}
 use Rattle.ir_types.specs.declared.span.Span.{Span}
 use Rattle.ir_types.specs.declared.name.Name.{Name}
@@ -26,27 +26,20 @@ use Rattle.ir_types.specs.declared.syntax.Instr.{Instr}
 use Rattle.ir_types.specs.declared.syntax.Block.{Block}
 use Rattle.ir_types.specs.declared.syntax.Function.{Function}
 use Rattle.ir_types.specs.declared.syntax.Global.{Global}
-use Rattle.ir_types.specs.declared.tree.Address.{Address}
 use Rattle.ir_types.specs.declared.tree.RawArg.{RawArg}
-use Rattle.ir_types.specs.declared.tree.RawValue.{RawValue}
-use Rattle.ir_types.specs.declared.tree.RawKind.{RawKind}
-use Rattle.ir_types.specs.declared.tree.RawKind.TheVariants as forms
-use Rattle.ir_types.specs.declared.tree.RawInstr.{RawInstr}
-use Rattle.ir_types.specs.declared.tree.Ty.{Ty}
 use Rattle.ir_types.specs.declared.tree.Ty.TheVariants.{Int}
-use Rattle.ir_lexer.specs.Lexeme.{Lexeme}
 use Rattle.ir_lexer.specs.Texts.{Inked}
 use Rattle.ir_lexer.specs.declared.token.TokenKind.TheVariants as kinds
-use Rattle.grammar.specs.Grammar.{Grammar, token, pair, gives, repeated, optional}
+use Rattle.grammar.specs.Grammar.{repeated}
 use Rattle.ir_parser.specs.Tokens.{G, ◌~◌, ◌▸◌, ◌◂◌, ◌∣◌, word, mark, comma, one_of, local, global, led, or_none}
-use Rattle.ir_parser.specs.Values.{int_type, ret, value, addr, attribute_words, flag_words, any_of, attach, attached, extra, extras}
-use Rattle.ir_parser.specs.Calls.{Worded, arg, next_arg, some_args, args, call_word, call_words, call, phi}
-use Rattle.ir_parser.specs.Instrs.{binop, predicate, castop, flags, alloca, load, binary, compare, convert, select, computing, giving, store, with_result, result_name, giving_instr, storing_instr, bare_instr, instr, instrs}
-use Rattle.ir_printer.specs.Text.{width_text, type_text, bin_text, pred_text, cast_text, local_text, global_text, value_text, variable_type, variable_text}
-use Rattle.printed_trees.proofs.Placed.{at_place, placed, Reads, Begins, one_token, both, made, second, first, left, right, no_option, some_option, none_more, one_more, weaker}
+use Rattle.ir_parser.specs.Values.{int_type, value, addr, attribute_words, flag_words, attach, extra}
+use Rattle.ir_parser.specs.Calls.{arg, next_arg, some_args, args, call_word, call_words, call, phi}
+use Rattle.ir_parser.specs.Instrs.{binop, castop, flags, alloca, load, binary, compare, convert, select, computing, giving, store, result_name, giving_instr, storing_instr, bare_instr, instr}
+use Rattle.ir_printer.specs.Text.{type_text, variable_type}
+use Rattle.printed_trees.proofs.Placed.{at_place, Reads, Begins, both, made, second, first, left, right, no_option, some_option, none_more, one_more, weaker}
 use Rattle.printed_trees.proofs.Put.{IsPutValue, IsPutVariable, ArePutTwo, IsPutOne, ArePutThree, IsPutOperation, ArePutArguments, IsPutKind, IsPutInstr}
 use Rattle.printed_trees.proofs.ReadValues.{type_reads, type_begins, ret_reads, word_reads, mark_reads, local_reads, global_reads, value_reads, variable_reads, no_words, no_attach, no_extra}
-use Rattle.printed_trees.proofs.ReadWords.{bin_reads, pred_reads, cast_reads, bin_no_alloca, bin_no_load, bin_begins, cast_no_alloca, cast_no_load, cast_no_binary, cast_no_compare, cast_begins, type_no_flag, pred_no_flag, type_no_attribute}
+use Rattle.printed_trees.proofs.ReadWords.{bin_reads, pred_reads, cast_reads, bin_no_alloca, bin_no_load, bin_begins, cast_no_alloca, cast_no_load, cast_no_binary, cast_no_compare, cast_begins, type_no_flag, pred_no_flag}
 use Rattle.printed_trees.proofs.Scripts as script
 
 -- what follows a line begins nothing that is dropped

@@ -1,13 +1,11 @@
 -- The functions and globals of a canonical text, read.
-use Rattle.std.proofs.Common.{◌≡◌, ◌≤◌, ◌<◌, ◌+◌, ◌^◌, nat_lt, ℕ, zero, suc, Bool, true, false, cond, ◌||◌, List, [], ◌∷◌, ◌++◌, map, Option, Some, None, Ok, codes, refl, sym, ap, subst, ◌∙◌, arith}
-use Rattle.std.specs.Prelude.{All, IsSome, ◌&&◌, not}
+use Rattle.std.proofs.Common.{◌≡◌, ◌+◌, ℕ, true, false, List, [], ◌∷◌, Option, Some, None, codes, refl, sym, subst, ◌∙◌}
 use Rattle.std.specs.List.{AllByRecursion, AllZip}
 use Rattle.mc_num.specs.declared.op.Width.{Width}
 use Rattle.mc_num.specs.declared.op.Width.TheVariants.{I1, I8, I16, I32, I64}
-use Rattle.ir_types.specs.Names.{IsNameText, IsSpellable, spelled}
-use Rattle.ir_types.specs.Order.{Item, starts_before, merged, up_to}
+use Rattle.ir_types.specs.Names.{IsSpellable, spelled}
 use Rattle.ir_types.specs.Program.{Program}
-use Rattle.ir_types.specs.TreeOf.{literal_of, type_tree, IsTreeParam, IsTreeType, AreTreeParams, AreTreeBlocks, IsTreeResult, IsTreeFunction, IsTreeGlobal, IsTreeOf}
+use Rattle.ir_types.specs.TreeOf.{literal_of, type_tree, IsTreeParam, IsTreeType, AreTreeParams, AreTreeBlocks, IsTreeResult, IsTreeFunction, IsTreeGlobal}
 use Rattle.ir_types.specs.declared.span.At.{At}
 use Rattle.ir_types.specs.declared.span.Span.{Span}
 use Rattle.ir_types.specs.declared.name.Name.{Name}
@@ -18,13 +16,12 @@ use Rattle.ir_types.specs.declared.tree.RawParam.{RawParam}
 use Rattle.ir_types.specs.declared.tree.RawBlock.{RawBlock}
 use Rattle.ir_types.specs.declared.tree.RawFunction.{RawFunction}
 use Rattle.ir_types.specs.declared.tree.RawGlobal.{RawGlobal}
-use Rattle.ir_types.specs.declared.tree.Raw.{Raw}
 use Rattle.ir_lexer.specs.Texts.{Inked}
 use Rattle.ir_lexer.specs.declared.token.TokenKind.TheVariants as kinds
 use Rattle.ir_lexer.specs.Lexeme.{Lexeme}
-use Rattle.grammar.specs.Grammar.{Grammar, choice, pair, gives, repeated, optional}
-use Rattle.ir_parser.specs.Tokens.{G, ◌~◌, ◌▸◌, ◌◂◌, word, mark, comma, one_of, local, global, or_none}
-use Rattle.ir_parser.specs.Values.{int_type, ret, gvalue, linkage_words, attribute_words, global_words, any_of, attach, attached, extra, extras, detail}
+use Rattle.grammar.specs.Grammar.{choice, pair, gives, repeated}
+use Rattle.ir_parser.specs.Tokens.{G, ◌~◌, ◌▸◌, ◌◂◌, mark, one_of, local, global}
+use Rattle.ir_parser.specs.Values.{int_type, gvalue, linkage_words, attribute_words, global_words, any_of, attach, attached, extra, extras, detail}
 use Rattle.ir_parser.specs.Calls.{call, call_word, phi}
 use Rattle.ir_parser.specs.Instrs.{alloca, load, binary, compare, convert, select, computing, giving, store, result_name, giving_instr, storing_instr, bare_instr, instr, instrs, binop, castop}
 use Rattle.ir_parser.specs.Terms.{bare_term, term, label, block, blocks}
@@ -33,8 +30,8 @@ use Rattle.ir_parser.specs.declared.modules.Member.{Member}
 use Rattle.ir_parser.specs.declared.modules.Member.TheVariants as parts
 use Rattle.ir_printer.specs.Text.{width_text, type_text, local_text, global_text, constant_text}
 use Rattle.printed_trees.proofs.Placed.{at_place, placed, IsRead, made_at, both_at, left_at, right_at, Reads, Begins, one_token, both, made, second, first, left, right, no_option, some_option, none_more, one_more, weaker}
-use Rattle.printed_trees.proofs.Put.{IsPutBlock, IsPutFunction, IsPutGlobal, IsPutModule}
-use Rattle.printed_trees.proofs.ReadValues.{type_reads, type_begins, ret_reads, word_reads, mark_reads, local_reads, global_reads, global_at, start_reads, no_words, no_attach, no_extra}
+use Rattle.printed_trees.proofs.Put.{IsPutBlock, IsPutFunction, IsPutGlobal}
+use Rattle.printed_trees.proofs.ReadValues.{type_reads, type_begins, ret_reads, word_reads, mark_reads, local_reads, global_at, start_reads, no_words, no_attach, no_extra}
 use Rattle.printed_trees.proofs.ReadInstrs.{comma_reads, or_first}
 use Rattle.printed_trees.proofs.ReadBlocks.{blocks_read}
 use Rattle.printed_trees.proofs.Scripts as script

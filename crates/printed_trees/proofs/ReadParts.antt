@@ -1,5 +1,5 @@
 -- The parts of a canonical text in order, read.
-use Rattle.std.proofs.Common.{◌≡◌, ◌≤◌, ◌<◌, ◌+◌, nat_lt, ℕ, suc, Bool, true, false, cond, List, [], ◌∷◌, ◌++◌, map, Ok, refl, sym, ap, subst, ◌∙◌, arith}
+use Rattle.std.proofs.Common.{◌≡◌, ◌≤◌, ◌+◌, ℕ, Bool, true, false, cond, List, [], ◌∷◌, ◌++◌, map, refl, sym, ap, subst, ◌∙◌, arith}
 use Rattle.std.specs.List.{AllByRecursion, AllZip}
 use Rattle.ir_types.specs.Order.{Item, starts_before, merged, up_to}
 use Rattle.ir_types.specs.Order.{Global as GlobalItem, Function as FunctionItem}
@@ -11,17 +11,13 @@ use Rattle.ir_types.specs.declared.syntax.Function.{Function}
 use Rattle.ir_types.specs.declared.syntax.Global.{Global}
 use Rattle.ir_types.specs.declared.tree.RawFunction.{RawFunction}
 use Rattle.ir_types.specs.declared.tree.RawGlobal.{RawGlobal}
-use Rattle.ir_types.specs.declared.tree.Raw.{Raw}
-use Rattle.ir_lexer.specs.Lexeme.{Lexeme}
 use Rattle.ir_lexer.specs.Texts.{Inked}
-use Rattle.grammar.specs.Grammar.{repeated, is_next}
-use Rattle.grammar.specs.Reading.{Reading, ◌>>=◌, read}
+use Rattle.grammar.specs.Grammar.{repeated}
 use Rattle.ir_parser.specs.Values.{attach, extra, detail}
 use Rattle.ir_parser.specs.Module.{declare, define, variable, part, parts_of, functions_of, globals_of, tree_of, module_text}
 use Rattle.ir_parser.specs.declared.modules.Member.{Member}
-use Rattle.ir_parser.specs.declared.modules.Member.TheVariants as parts
-use Rattle.printed_trees.proofs.Placed.{placed, IsRead, Begins, none_more, one_more_at, weaker_at, made_at}
-use Rattle.printed_trees.proofs.Put.{IsPutBlock, IsPutFunction, IsPutGlobal, IsPutModule}
+use Rattle.printed_trees.proofs.Placed.{IsRead, Begins, none_more, one_more_at, weaker_at, made_at}
+use Rattle.printed_trees.proofs.Put.{IsPutFunction, IsPutGlobal, IsPutModule}
 use Rattle.printed_trees.proofs.ReadValues.{named_global}
 use Rattle.printed_trees.proofs.ReadInstrs.{or_first}
 use Rattle.printed_trees.proofs.ReadModule.{From, IsFunctionPart, IsGlobalPart, place_of_part, function_part, global_part}

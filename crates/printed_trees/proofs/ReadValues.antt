@@ -1,5 +1,5 @@
 -- Types, values, addresses and labels of a canonical text, read.
-use Rattle.std.proofs.Common.{◌≡◌, ◌<◌, ◌≤◌, ◌+◌, ◌-◌, ◌^◌, ◌&&◌, ◌==◌, not, nat_lt, ℕ, suc, pos, negsuc, Bool, true, false, cond, List, [], ◌∷◌, ◌++◌, Option, Some, None, codes, slice_get, refl, sym, ap, subst, ◌∙◌, arith}
+use Rattle.std.proofs.Common.{◌≡◌, ◌<◌, ◌≤◌, ◌+◌, ◌-◌, ◌^◌, ◌==◌, not, nat_lt, ℕ, pos, negsuc, Bool, true, false, cond, List, [], ◌∷◌, Option, Some, None, codes, refl, sym, ap, subst, ◌∙◌, arith}
 use Rattle.std.specs.List.{list_all}
 use Rattle.std.specs.Option.{option_map_or}
 use Rattle.std.specs.Fmt.{signed_decimal}
@@ -7,7 +7,7 @@ use Rattle.mc_num.specs.Op.{bits}
 use Rattle.mc_num.specs.declared.op.Width.{Width}
 use Rattle.mc_num.specs.declared.op.Width.TheVariants.{I1, I8, I16, I32, I64}
 use Rattle.ir_types.specs.Bytes.{is_digit}
-use Rattle.ir_types.specs.Names.{IsNameText, IsSpellable, spelled, name_text, quoted_text}
+use Rattle.ir_types.specs.Names.{IsSpellable, spelled, quoted_text}
 use Rattle.ir_types.specs.Program.{Program}
 use Rattle.ir_types.specs.TreeOf.{signed, literal_of, operand_name, value_tree, address_tree, label_tree, type_tree}
 use Rattle.ir_types.specs.declared.name.Name.{Name}
@@ -22,20 +22,19 @@ use Rattle.ir_types.specs.declared.syntax.Block.{Block}
 use Rattle.ir_types.specs.declared.syntax.Function.{Function}
 use Rattle.ir_types.specs.declared.syntax.Global.{Global}
 use Rattle.ir_types.specs.declared.tree.Ty.{Ty}
-use Rattle.ir_types.specs.declared.tree.Address.{Address}
 use Rattle.ir_types.specs.declared.tree.Address.TheVariants as addresses
 use Rattle.ir_types.specs.declared.tree.RawValue.{RawValue}
 use Rattle.ir_types.specs.declared.tree.RawValue.TheVariants as values
 use Rattle.ir_lexer.specs.Lexeme.{Lexeme}
 use Rattle.ir_lexer.specs.Texts.{Inked}
 use Rattle.ir_lexer.specs.declared.token.TokenKind.TheVariants as kinds
-use Rattle.grammar.specs.Grammar.{token, gives, repeated}
-use Rattle.ir_parser.specs.Words.{unquoted, name_of, local_name, global_name, literal, literal_of as literal_read}
-use Rattle.ir_parser.specs.Tokens.{G, is_kind, is_spelled, is_one_of, is_numbered, is_named_global, a, word, mark, one_of, one_from, at, local, global}
-use Rattle.ir_parser.specs.Values.{widths, int_type, ret, cvalue, gvalue, value, addr, target, attach, attached, extra, extras, any_of}
-use Rattle.ir_printer.specs.Text.{width_text, type_text, local_text, global_text, constant_text, value_text, variable_text}
+use Rattle.grammar.specs.Grammar.{token, gives}
+use Rattle.ir_parser.specs.Words.{unquoted, name_of, local_name, global_name, literal}
+use Rattle.ir_parser.specs.Tokens.{is_spelled, is_named_global, a, word, mark, one_of, at, local, global}
+use Rattle.ir_parser.specs.Values.{int_type, ret, cvalue, gvalue, value, addr, target, attach, attached, extra, extras, any_of}
+use Rattle.ir_printer.specs.Text.{width_text, type_text, local_text, global_text, constant_text, variable_text}
 use Rattle.printed_trees.proofs.Names.{name_back, text_back, literal_back, number_of_back, negative_back}
-use Rattle.printed_trees.proofs.Placed.{at_place, placed, IsRead, made_at, token_at, Reads, Begins, one_token, both, made, second, first, left, right, no_option, none_more, weaker}
+use Rattle.printed_trees.proofs.Placed.{at_place, IsRead, made_at, token_at, Reads, Begins, one_token, made, second, left, right, none_more, weaker}
 use Rattle.printed_trees.proofs.Put.{IsPutName, IsPutValue, IsPutVariable, IsPutTarget}
 use Rattle.printed_trees.proofs.Scripts as script
 

@@ -11,8 +11,7 @@ use Rattle.mc_num.specs.declared.op.Cast.TheVariants as casts
 use Rattle.ir_types.specs.declared.span.Span.{Span}
 use Rattle.ir_lexer.specs.Texts.{Inked}
 use Rattle.ir_parser.specs.Tokens.{one_of}
-use Rattle.ir_parser.specs.Values.{detail, extra, flag_words, attribute_words, linkage_words, global_words}
-use Rattle.ir_parser.specs.Calls.{call_words}
+use Rattle.ir_parser.specs.Values.{detail, extra, flag_words, attribute_words, linkage_words}
 use Rattle.ir_parser.specs.Instrs.{binop, predicate, castop, alloca, load, binary, compare, convert}
 use Rattle.ir_printer.specs.Text.{width_text, bin_text, pred_text, cast_text}
 use Rattle.printed_trees.proofs.Placed.{at_place, Reads, Begins, made, one_token}

@@ -20,7 +20,7 @@ use Rattle.ir_types.specs.declared.syntax.Terminator.TheVariants.{Return, Jump, 
 use Rattle.ir_types.specs.declared.syntax.Block.{Block}
 use Rattle.ir_types.specs.declared.syntax.Function.{Function}
 use Rattle.ir_types.specs.declared.syntax.Global.{Global}
-use Rattle.ir_lexer.specs.Texts.{Bare, Inked}
+use Rattle.ir_lexer.specs.Texts.{Inked}
 use Rattle.ir_lexer.specs.declared.token.TokenKind.{TokenKind}
 use Rattle.ir_lexer.specs.declared.token.TokenKind.TheVariants as kinds
 use Rattle.ir_printer.specs.Text.{width_text, type_text, bin_text, pred_text, cast_text, local_text, global_text, constant_text, value_text, variable_type, variable_text}

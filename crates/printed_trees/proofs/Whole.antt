@@ -1,23 +1,20 @@
 -- The canonical text of a module spells the tree of the module.
-use Rattle.std.proofs.Common.{◌≡◌, ◌≤◌, ◌<◌, ℕ, zero, suc, List, [], ◌∷◌, map, Ok, refl, sym, ap, subst, ◌∙◌, arith}
+use Rattle.std.proofs.Common.{◌≡◌, ◌≤◌, ℕ, zero, suc, List, [], ◌∷◌, map, Ok, refl, sym, ap, subst, ◌∙◌, arith}
 use Rattle.ir_types.specs.Program.{Program}
-use Rattle.ir_types.specs.TreeOf.{IsTreeOf}
 use Rattle.ir_types.specs.WellFormed.{IsWellFormed}
 use Rattle.ir_types.specs.declared.span.Span.{Span}
 use Rattle.ir_lexer.specs.Lexeme.{Lexeme}
 use Rattle.ir_lexer.specs.Texts.{Bare, Inked, bare, IsParted, LexesBack}
 use Rattle.ir_lexer.specs.Tokens.{tokens_of, IsOrderedFrom}
 use Rattle.grammar.specs.Grammar.{SpellsAll}
-use Rattle.grammar.specs.Reading.{read}
 use Rattle.grammar.proofs.Rows.{read_is}
 use Rattle.ir_parser.specs.Module.{module_text}
-use Rattle.ir_printer.specs.Text.{text_of}
 use Rattle.printed_trees.specs.Printed.{SpellsTree}
 use Rattle.printed_trees.proofs.Blocks.{text_is}
 use Rattle.printed_trees.proofs.Facts.{put_module}
 use Rattle.printed_trees.proofs.Parted.{script_parted}
 use Rattle.printed_trees.proofs.Placed.{placed}
-use Rattle.printed_trees.proofs.ReadParts.{IsAscending, module_read}
+use Rattle.printed_trees.proofs.ReadParts.{module_read}
 use Rattle.printed_trees.proofs.Scripts.{script_of}
 
 -- a first place, and others

@@ -10,8 +10,8 @@ use Rattle.top_call.specs.declared.ending.Problem.TheVariants.{TooLong, Text, Gr
 use Rattle.top_call.specs.declared.ending.Stop.{Stop}
 use Rattle.top_call.specs.declared.ending.Stop.TheVariants.{Usage, Refused, ReadFault, WriteFault, OutOfMemory}
 use Rattle.top_call.specs.Ending.{Ending, status_of}
-use Rattle.top_call.specs.Print.{text_limit, PrintsAs, HasProblem, PrintEnds, LeavesPart}
-use Rattle.top_call.specs.Row.{Row, Print}
+use Rattle.top_call.specs.Print.{PrintsAs, HasProblem, PrintEnds}
+use Rattle.top_call.specs.Row.{Print}
 use Rattle.top_call.specs.Stops.{StopsReading}
 use Rattle.top_call.specs.Top.{Ends, IsRefused, IsAccepted}
 

@@ -1,5 +1,5 @@
-use Rattle.std.proofs.Common.{◌≡◌, List, ◌++◌, drop, ap, sym, ◌∙◌, append-nil, codes, ◌==◌}
-use Rattle.ir_printer.specs.Text.{separated, arguments_texts}
+use Rattle.std.proofs.Common.{List, ◌++◌, ap, sym, ◌∙◌, append-nil, codes, ◌==◌}
+use Rattle.ir_printer.specs.Text.{separated}
 use Rattle.ir_printer.proofs.Arguments.{arguments_end}
 use Rattle.ir_printer.proofs.instrs.put_arguments.Goals as goal
 

@@ -1,5 +1,4 @@
-use Rattle.std.proofs.Common.{◌≡◌, ◌++◌, codes, map, drop, ◌==◌, ◌&&◌, not, take, [], true}
-use Rattle.std.specs.List.{flat_map}
+use Rattle.std.proofs.Common.{◌≡◌, ◌++◌, codes, drop, ◌==◌}
 use Rattle.ir_printer.specs.Text.{separated, listed, arguments_texts}
 use Rattle.ir_printer.proofs.instrs.put_arguments.Given as goal
 

@@ -1,5 +1,5 @@
-use Rattle.std.proofs.Common.{◌≡◌, List, ◌++◌, map, ap, sym, ◌∙◌, append_assoc, codes, refl}
-use Rattle.ir_printer.specs.Text.{separated, listed, param_text, type_text, global_text, blocks_text}
+use Rattle.std.proofs.Common.{List, ◌++◌, map, ap, ◌∙◌, codes, refl}
+use Rattle.ir_printer.specs.Text.{listed, param_text, type_text, global_text, blocks_text}
 use Rattle.ir_types.specs.declared.syntax.Block.{Block}
 use Rattle.ir_printer.proofs.Appended.{last_put, in_six, regrouped_head}
 use Rattle.ir_printer.proofs.printing.put_definition.Goals as goal

@@ -1,5 +1,4 @@
-use Rattle.std.proofs.Common.{◌≡◌, ◌++◌, codes, map, drop, ◌==◌, ◌&&◌, not, take, [], true}
-use Rattle.std.specs.List.{flat_map}
+use Rattle.std.proofs.Common.{◌≡◌, ◌++◌, codes, map, drop, ◌==◌, ◌&&◌, not}
 use Rattle.ir_printer.specs.Text.{separated, function_text}
 use Rattle.ir_printer.proofs.printing.put_functions.Given as goal
 

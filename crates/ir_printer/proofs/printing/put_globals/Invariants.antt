@@ -1,4 +1,4 @@
-use Rattle.std.proofs.Common.{◌≡◌, ◌++◌, codes, map, drop, ◌==◌, ◌&&◌, not, take, [], true}
+use Rattle.std.proofs.Common.{◌≡◌, ◌++◌, take}
 use Rattle.std.specs.List.{flat_map}
 use Rattle.ir_printer.specs.Text.{global_line}
 use Rattle.ir_printer.proofs.printing.put_globals.Given as goal

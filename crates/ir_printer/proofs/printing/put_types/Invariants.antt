@@ -1,5 +1,4 @@
-use Rattle.std.proofs.Common.{◌≡◌, ◌++◌, codes, map, drop, ◌==◌, ◌&&◌, not, take, [], true}
-use Rattle.std.specs.List.{flat_map}
+use Rattle.std.proofs.Common.{◌≡◌, ◌++◌, codes, map, drop, ◌==◌}
 use Rattle.ir_printer.specs.Text.{separated, listed, type_of_param}
 use Rattle.ir_printer.proofs.printing.put_types.Given as goal
 

@@ -1,4 +1,4 @@
-use Rattle.std.proofs.Common.{◌≡◌, List, [], map, Ok, Err, sym, subst, ap, ◌∙◌}
+use Rattle.std.proofs.Common.{List, [], map, Ok, Err, sym, subst, ap, ◌∙◌}
 use Rattle.std.proofs.lemmas.Result.{err_from_is_err_and}
 use Rattle.ir_types.specs.declared.span.Span.{Span}
 use Rattle.ir_lexer.specs.Lexeme.{lexeme}

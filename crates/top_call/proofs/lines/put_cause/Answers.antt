@@ -1,5 +1,4 @@
-use Rattle.std.proofs.Common.{ℕ, List, codes, subst}
-use Rattle.mc_host.specs.Streams.{Puts}
+use Rattle.std.proofs.Common.{codes}
 use Rattle.mc_host.proofs.PutsLemmas.{puts_then, puts_stop}
 use Rattle.top_call.specs.Refused.{hex_text}
 use Rattle.top_call.proofs.lines.put_cause.Goals as goal

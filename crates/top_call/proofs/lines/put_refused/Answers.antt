@@ -1,6 +1,6 @@
 use Rattle.std.proofs.Common.{codes}
 use Rattle.mc_host.proofs.PutsLemmas.{puts_then, puts_stop}
-use Rattle.top_call.specs.Refused.{place_of, place_text, cause_text}
+use Rattle.top_call.specs.Refused.{place_text, cause_text}
 use Rattle.top_call.proofs.lines.put_refused.Goals as goal
 
 pub returns-in_err-put_place : goal.returns-in_err-put_place

@@ -1,4 +1,3 @@
-use Rattle.std.proofs.Common.{length, arith}
 use Rattle.top_call.proofs.Excerpts.{excerpt_is}
 use Rattle.top_call.proofs.refused.excerpt_at.Goals as goal
 

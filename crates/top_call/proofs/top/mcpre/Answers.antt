@@ -1,4 +1,3 @@
-use Rattle.std.proofs.Common.{inl, inr, ◌∙◌, sym}
 use Rattle.top_call.specs.Row.{row_of, texts}
 use Rattle.top_call.proofs.Endings.{not_done, complete}
 use Rattle.top_call.proofs.top.mcpre.Goals as goal
