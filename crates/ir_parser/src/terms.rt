@@ -216,7 +216,8 @@ pub fn blocks<'a>(
 ) -> Result<(Items<RawBlock<'a>>, usize), Trouble>
     ensures { GivesOrMemory tokens.now result (read blocks (map lexeme (drop at tokens.now))) }
 {
-    let mut blocks = Items::new(alloc);
+    // Most functions of some texts have one block: no room for more is made ahead.
+    let mut blocks = Items::from(Vec::with_capacity(alloc, 1)?);
     let (first, mut next) = block(alloc, tokens, at)?;
     blocks.push(first)?;
     while is_block_next(tokens, next) {
