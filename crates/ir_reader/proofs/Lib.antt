@@ -1,9 +1,3 @@
-mod Names
-mod Scripts
-mod Lines
-mod Parted
-mod Spelled
-mod Facts
-mod Trees
-mod Back
-mod One
+pub mod One
+pub mod Back
+pub mod Answers

@@ -1,4 +1,4 @@
-//! Texts of the first form: read as modules, and read back from what is printed.
+//! Texts: read as modules or refused at their place, and read back from what is printed.
 #![tactic(auto)]
 
 mod laws;
@@ -6,5 +6,5 @@ mod reading;
 #[cfg(test)]
 mod tests;
 
-pub use laws::{one_module, reads_back};
-pub use reading::{ReadError, read};
+pub use laws::{one_answer, reads_back};
+pub use reading::{ReadError, Refusal, read};

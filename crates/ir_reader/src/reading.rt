@@ -1,25 +1,39 @@
 //! Reading of a text.
 ghost use Rattle.std.specs.Prelude.{◌≡◌, ◌≤◌, ◌^◌, length, All, IfOk};
-ghost use Rattle.std.specs.Result.{IsErrOf};
-ghost use Rattle.ir_types.specs.Program.{Program};
-ghost use Rattle.ir_types.specs.FirstForm.{IsFirstModule, IsWithinLimits};
-ghost use Rattle.ir_reader.specs.Reading.{IsFirstForm, IsReadAs, Reads, ReadsBack};
+ghost use Rattle.ir_types.specs.Limits.{IsWithinLimits};
+ghost use Rattle.ir_types.specs.WellFormed.{IsWellFormed};
+ghost use Rattle.ir_reader.specs.Reading.{Tells, ReadsBack};
 ghost use Rattle.ir_reader.specs.Causes.{cause_of_lex, cause_of_parse, cause_of_check};
 
 use crate::laws::reads_back;
-use ir_check::{CheckError, check, checked_modules};
+use ir_check::{CheckError, check};
 use ir_lexer::{LexError, end_of, lex};
 use ir_parser::{ParseError, parse};
 use ir_types::module::Module;
+use ir_types::rules::Problem;
+use ir_types::span::Span;
 use std::alloc::Global;
 use thiserror::Error;
+use tree_rules::checked_trees;
+
+/// Why a text is refused, and where.
+#[derive(Clone, Copy, Debug, PartialEq, Eq)]
+pub enum Refusal {
+    /// The first byte that starts no token.
+    BadByte(Span, u8),
+    /// The first token at which the grammar can't go on, or the end.
+    Syntax(Span),
+    /// The same, where the language goes on at this token, but not the part of it that is accepted.
+    OutOfProfile(Span),
+    /// The first broken rule.
+    Broken(Problem),
+}
 
 /// Why a text is not read.
 #[derive(Clone, Copy, Debug, PartialEq, Eq, Error)]
 pub enum ReadError {
-    /// The text is not of the first form.
-    #[error("not of the first form")]
-    NotYet,
+    #[error("refused")]
+    Refused(Refusal),
     #[error("out of memory")]
     NoMemory,
 }
@@ -29,7 +43,7 @@ impl From<LexError> for ReadError {
 
     fn from(error: LexError) -> ReadError {
         match error {
-            LexError::BadByte(_, _) => ReadError::NotYet,
+            LexError::BadByte(span, byte) => ReadError::Refused(Refusal::BadByte(span, byte)),
             LexError::NoMemory => ReadError::NoMemory,
         }
     }
@@ -40,7 +54,8 @@ impl From<ParseError> for ReadError {
 
     fn from(error: ParseError) -> ReadError {
         match error {
-            ParseError::Syntax(_) => ReadError::NotYet,
+            ParseError::Syntax(span) => ReadError::Refused(Refusal::Syntax(span)),
+            ParseError::OutOfProfile(span) => ReadError::Refused(Refusal::OutOfProfile(span)),
             ParseError::NoMemory => ReadError::NoMemory,
         }
     }
@@ -51,44 +66,29 @@ impl From<CheckError> for ReadError {
 
     fn from(error: CheckError) -> ReadError {
         match error {
-            CheckError::Broken(_) => ReadError::NotYet,
+            CheckError::Broken(problem) => ReadError::Refused(Refusal::Broken(problem)),
             CheckError::NoMemory => ReadError::NoMemory,
         }
     }
 }
 
-fn first_form<'a>(alloc: Global, source: &'a [u8]) -> Result<Module<'a>, ReadError>
+/// The module that a text means. The text has at most 2^26 bytes.
+///
+/// `Refused` comes exactly where a byte starts no token, the grammar stops, or the tree breaks a rule, with the first
+/// of these in this order and its place; `NoMemory` where an allocation was refused.
+pub fn read<'a>(alloc: Global, source: &'a [u8]) -> Result<Module<'a>, ReadError>
     requires { length source.now ≤ 2 ^ 26 }
-    ensures found { IfOk result (λ m. IsFirstForm source.now m) }
-    ensures only { (m : Program) → IsFirstForm source.now m → IsReadAs m result }
-    ensures first { IfOk result IsFirstModule }
+    // The answer is the one that the text has.
+    ensures answer { Tells source.now result }
     ensures limits { IfOk result (λ m. All IsWithinLimits m.functions) }
+    // Its canonical text reads back.
     ensures back { IfOk result ReadsBack }
 {
     let tokens = lex(alloc, source)?;
     let tree = parse(alloc, &tokens, end_of(source))?;
     drop(tokens);
     let program = check(alloc, &tree)?;
-    checked_modules();
+    checked_trees();
     reads_back();
     Ok(program)
-}
-
-/// The module that a text of the first form means. The text has at most 2^26 bytes.
-///
-/// `NotYet` comes exactly where the text is not of the first form; `NoMemory` where an allocation was refused.
-pub fn read<'a>(alloc: Global, source: &'a [u8]) -> Result<Module<'a>, ReadError>
-    requires { length source.now ≤ 2 ^ 26 }
-
-    ensures found { IfOk result (λ m. Reads source.now m) }
-    // The text reads as no other module.
-    ensures only { IfOk result (λ m. (other : Program) → Reads source.now other → other ≡ m) }
-    ensures not_yet { IsErrOf result ReadError.NotYet → (m : Program) → ¬ (Reads source.now m) }
-
-    ensures first { IfOk result IsFirstModule }
-    ensures limits { IfOk result (λ m. All IsWithinLimits m.functions) }
-    // Its canonical text reads back.
-    ensures back { IfOk result ReadsBack }
-{
-    first_form(alloc, source)
 }
