@@ -1,3 +1,3 @@
 pub mod One
 pub mod Back
-pub mod Answers
+pub mod Told

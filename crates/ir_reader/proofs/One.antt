@@ -22,8 +22,11 @@ use Rattle.ir_reader.specs.declared.reading.Refusal.TheVariants.{BadByte, Syntax
 same_tokens : (lexing : Lexing) (ts us : List Lexeme) → lexing ≡ Ok ts → lexing ≡ Ok us → ts ≡ us
 same_tokens lexing ts us e f = cc
 
-not_wrong : (lexing : Lexing) (ts : List Lexeme) (w : _) → lexing ≡ Ok ts → lexing ≡ Err w → ⊥
+not_wrong : (lexing : Lexing) (ts : List Lexeme) (w : Wrong) → lexing ≡ Ok ts → lexing ≡ Err w → ⊥
 not_wrong lexing ts w e f = absurd cc
+
+same_wrong : (v w : Wrong) → (let x : Lexing = Err v in x ≡ Err w) → BadByte v.span v.byte ≡ BadByte w.span w.byte
+same_wrong v w e = let same : v ≡ w = cc in ap (λ (w : Wrong). BadByte w.span w.byte) same
 
 same_length : (front other stop : List Lexeme) → front ++ stop ≡ other ++ stop → front ≡ other
 same_length front other stop e = by front other e
@@ -67,17 +70,14 @@ module _ (determined : (tokens : List Lexeme) → IsDetermined module_text token
 
   -- one stop is out of the profile or isn't
   both_ways : (f g : List Lexeme) (h k : List Lexeme) → f ≡ g → h ≡ k → IsOutOfProfile f h → (IsOutOfProfile g k → ⊥) → ⊥
-  both_ways f g h k e d out no =
+  both_ways f g h k e d out isnt =
       let P : List Lexeme → Type 0 = λ f. IsOutOfProfile f h in
       let Q : List Lexeme → Type 0 = λ h. IsOutOfProfile g h in
-      no (subst Q d (subst P e out))
+      isnt (subst Q d (subst P e out))
 
   one_refusal : (r s : Refusal) → Refuses bytes r → Refuses bytes s → r ≡ s
   unfolding Refuses
-  one_refusal (BadByte span byte) (BadByte other b) p q = same_wrong span other byte b (sym p ∙ q)
-    where
-      same_wrong : (span other : Span) (byte b : ℕ) → (let x : Lexing = Err (record { span = span; byte = byte }) in let y : Lexing = Err (record { span = other; byte = b }) in x ≡ y) → BadByte span byte ≡ BadByte other b
-      same_wrong span other byte b e = cc
+  one_refusal (BadByte span byte) (BadByte other b) p q = same_wrong (record { span = span; byte = byte }) (record { span = other; byte = b }) (sym p ∙ q)
   one_refusal (BadByte span byte) (Syntax other) p q = absurd (not_wrong _ q.tokens _ q.lexed p)
   one_refusal (BadByte span byte) (OutOfProfile other) p q = absurd (not_wrong _ q.tokens _ q.lexed p)
   one_refusal (BadByte span byte) (Broken problem) p q = absurd (not_wrong _ q.tokens _ q.lexed p)
