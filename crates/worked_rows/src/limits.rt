@@ -65,7 +65,12 @@ fn both_sides_of_each_limit(rt: HostRuntime) -> Result<(), Fail> {
         assert_eq!(rt; printed.status, 0, "within, of {}", body.piece);
         let text = text_of(rt.alloc(), body, body.above)?;
         let printed = print(rt.alloc(), &text)?;
-        assert_eq!(rt; printed.line.as_str(), "mcpre: a.ll:1: E15 Limit @f\n", "above, of {}", body.piece);
+        assert_eq!(rt;
+            printed.line.as_str(),
+            "mcpre: a.ll:1: E15 Limit @f\n",
+            "above, of {}",
+            body.piece
+        );
         assert_eq!(rt; printed.status, 1, "above, of {}", body.piece);
     }
     Ok(())

@@ -69,39 +69,6 @@ fn a_file_may_be_printed_over_itself(rt: HostRuntime) -> Result<(), Fail> {
     Ok(())
 }
 
-#[test]
-fn another_form_is_refused(rt: HostRuntime) -> Result<(), Fail> {
-    expect_row(
-        &rt,
-        rt.alloc(),
-        &["print", "a.ll", "o.ll"],
-        b"define void @f(){unreachable}",
-        &[],
-        Answer {
-            status: 1,
-            line: b"mcpre: a.ll: E0 NotYet\n",
-            written: b"",
-        },
-    )
-}
-
-#[test]
-fn a_file_that_is_too_long_is_refused(rt: HostRuntime) -> Result<(), Fail> {
-    let source = vec![in rt.alloc(); b'a'; 67_108_865]?;
-    expect_row(
-        &rt,
-        rt.alloc(),
-        &["print", "a.ll", "o.ll"],
-        &source,
-        &[],
-        Answer {
-            status: 1,
-            line: b"mcpre: a.ll: E1 TooLong\n",
-            written: b"",
-        },
-    )
-}
-
 // Words that fit no row change nothing.
 fn expect_usage(rt: &impl Abort, alloc: Global, words: &[&str]) -> Result<(), Fail> {
     expect_row(
