@@ -8,8 +8,6 @@ use Rattle.ir_types.specs.Definitions.{Defined}
 use Rattle.ir_types.specs.Rules.{Passed, after_item, after_items, item_problem, items_problem}
 use Rattle.ir_types.specs.ModuleOf.{function_of, global_of}
 use Rattle.ir_types.specs.Size.{function_items, items}
-use Rattle.ir_types.specs.declared.syntax.Global.{Global as GlobalMade}
-use Rattle.ir_types.specs.declared.syntax.Function.{Function as FunctionMade}
 use Rattle.ir_types.specs.declared.tree.RawFunction.{RawFunction}
 use Rattle.ir_types.specs.declared.tree.RawGlobal.{RawGlobal}
 use Rattle.ir_types.specs.declared.tree.Raw.{Raw}

@@ -1,5 +1,5 @@
 -- The numbers of places fit.
-use Rattle.std.proofs.Common.{◌≡◌, ◌<◌, ◌≤◌, ◌+◌, ◌^◌, ℕ, List, [], ◌∷◌, length, get_or, drop, refl, sym, ap, ◌∙◌, arith}
+use Rattle.std.proofs.Common.{◌≡◌, ◌<◌, ◌≤◌, ◌+◌, ◌^◌, ℕ, List, [], ◌∷◌, length, get_or, drop, refl, ap, ◌∙◌, arith}
 use Rattle.ir_types.specs.Rules.{Reached, after_instr, after_instrs, at_block, after_block}
 use Rattle.ir_types.specs.declared.tree.RawInstr.{RawInstr}
 use Rattle.ir_types.specs.declared.tree.RawBlock.{RawBlock}

@@ -1,8 +1,8 @@
 -- The lists of a function are no longer than its items.
-use Rattle.std.proofs.Common.{◌≡◌, ◌<◌, ◌≤◌, ◌+◌, ◌*◌, ◌^◌, ℕ, Bool, not, List, [], ◌∷◌, length, ap, ◌∙◌, sym, arith}
+use Rattle.std.proofs.Common.{◌≡◌, ◌<◌, ◌≤◌, ◌+◌, ◌*◌, ◌^◌, Bool, List, [], ◌∷◌, length, arith}
 use Rattle.std.specs.Prelude.{count_by, sum_by}
 use Rattle.std.proofs.lemmas.List.Sums.{sum_by-cons, count_by-le-length}
-use Rattle.ir_types.specs.Limits.{is_alloca, raw_slot_count}
+use Rattle.ir_types.specs.Limits.{raw_slot_count}
 use Rattle.ir_types.specs.Size.{block_items, function_items, term_items}
 use Rattle.ir_types.specs.Rules.{Reached}
 use Rattle.ir_types.specs.declared.tree.RawInstr.{RawInstr}

@@ -1,5 +1,5 @@
 -- Loops over the parts of functions: what is left after one part more.
-use Rattle.std.proofs.Common.{◌≡◌, ◌<◌, ◌≤◌, ◌+◌, ℕ, suc, Bool, true, false, List, [], ◌∷◌, ◌++◌, append_assoc, append-nil, Option, None, length, map, get_or, drop, drop-cons, add-one, refl, sym, ap, ◌∙◌, arith}
+use Rattle.std.proofs.Common.{◌≡◌, ◌<◌, ◌≤◌, ◌+◌, ℕ, Bool, true, false, List, [], ◌∷◌, ◌++◌, None, length, get_or, drop, refl, arith}
 use Rattle.std.specs.Prelude.{option_to_list, if◌then◌else◌}
 use Rattle.mc_num.specs.declared.op.Width.{Width}
 use Rattle.ir_types.specs.Problems.{◌>>◌}
@@ -9,13 +9,9 @@ use Rattle.ir_types.specs.Limits.{is_alloca}
 use Rattle.ir_types.specs.Uses.{Context, case_problem, cases_problem}
 use Rattle.ir_types.specs.Rules.{Reached, after_instr, after_instrs, instr_problem, instrs_problem, at_block, after_block, after_blocks, block_problem, blocks_problem, after_params, params_problem}
 use Rattle.ir_types.specs.ModuleOf.{var_of, instr_of, vars_from, instrs_from, block_of, blocks_from, variables_from, params_from, numbered_from}
-use Rattle.ir_types.specs.declared.name.Name.{Name}
 use Rattle.ir_types.specs.declared.name.Name.TheVariants.{Number}
 use Rattle.ir_types.specs.declared.rules.Here.{Here}
-use Rattle.ir_types.specs.declared.rules.Problem.{Problem}
 use Rattle.ir_types.specs.declared.rules.Meaning.TheVariants.{Parameter}
-use Rattle.ir_types.specs.declared.syntax.Instr.{Instr}
-use Rattle.ir_types.specs.declared.syntax.Block.{Block}
 use Rattle.ir_types.specs.declared.tree.RawCase.{RawCase}
 use Rattle.ir_types.specs.declared.tree.RawParam.{RawParam}
 use Rattle.ir_types.specs.declared.tree.RawInstr.{RawInstr}

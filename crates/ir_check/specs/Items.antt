@@ -15,6 +15,7 @@ use Rattle.ir_check.specs.declared.tree.Part.TheVariants as part
 use Rattle.ir_check.specs.declared.tree.Made.{Made}
 use Rattle.ir_check.specs.declared.tree.Made.TheVariants as made
 
+-- the global or function that a part is
 abbrev pub item_in : Part → Item
 item_in (part.Global g) = Global g.now
 item_in (part.Function f) = Function f.now
@@ -26,6 +27,7 @@ earlier (Some g) None = Some (Global g)
 earlier None (Some f) = Some (Function f)
 earlier (Some g) (Some f) = Some (if starts_before f g then Function f else Global g)
 
+-- what comes next, behind what was passed
 abbrev pub next_item : Raw → Passed → Option Item
 next_item raw p = earlier (slice_get raw.globals p.globals) (slice_get raw.functions p.functions)
 
@@ -39,10 +41,12 @@ abbrev pub made_of : List RawFunction → Defined → Item → Made
 made_of functions symbols (Global g) = made.Global (global_of g)
 made_of functions symbols (Function f) = made.Function (function_of functions symbols f)
 
+-- the global, if it became one
 abbrev pub global_in : Made → Option GlobalMade
 global_in (made.Global g) = Some g
 global_in (made.Function f) = None
 
+-- the function, if it became one
 abbrev pub function_in : Made → Option FunctionMade
 function_in (made.Global g) = None
 function_in (made.Function f) = Some f

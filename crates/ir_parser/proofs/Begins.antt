@@ -1,5 +1,5 @@
 -- A phrase begins where its first part does, which takes a token.
-use Rattle.std.proofs.Common.{◌≡◌, Bool, true, false, ◌&&◌, ◌||◌, List, refl, sym, ap, ◌∙◌}
+use Rattle.std.proofs.Common.{◌≡◌, Bool, true, false, ◌&&◌, ◌||◌, List, refl}
 use Rattle.ir_lexer.specs.Lexeme.{Lexeme}
 use Rattle.grammar.specs.Grammar.{Grammar, pair, is_empty, is_next}
 use Rattle.ir_parser.specs.Values.{attached}

@@ -1,7 +1,7 @@
 -- Reading what is repeated, one item after the other, where nothing is kept or where a first item is read before.
 use Rattle.std.proofs.Common.{◌≡◌, Bool, true, false, cond, ℕ, List, [], ◌∷◌, Result, Ok, Err, refl, sym, ap, ◌∙◌}
 use Rattle.grammar.specs.Grammar.{Grammar, token, pair, repeated, gives, is_next, heads}
-use Rattle.grammar.specs.Reading.{Reading, ◌>>=◌, read, read_token}
+use Rattle.grammar.specs.Reading.{Reading, ◌>>=◌, read}
 use Rattle.grammar.proofs.Rows.{read_more, read_halts, read_ends, with_front, halts}
 use Rattle.ir_lexer.specs.Lexeme.{Lexeme}
 use Rattle.ir_lexer.specs.declared.token.Token.{Token}

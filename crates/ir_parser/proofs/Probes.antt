@@ -1,5 +1,5 @@
 -- What a probe behind tokens tells.
-use Rattle.std.proofs.Common.{◌≡◌, ℕ, ◌+◌, ◌<◌, nat_eq, not, Bool, true, false, List, [], ◌∷◌, ◌++◌, drop, map, length, Ok, Err, ◌⊎◌, inl, inr, refl, sym, ap, subst, ◌∙◌, arith, codes, length-append, length-drop}
+use Rattle.std.proofs.Common.{◌≡◌, ℕ, nat_eq, not, Bool, true, false, List, [], ◌∷◌, ◌++◌, drop, map, length, Ok, Err, ◌⊎◌, inl, inr, refl, sym, ap, subst, ◌∙◌, arith, codes, length-append, length-drop}
 use Rattle.std.proofs.lemmas.List.{length-map}
 use Rattle.std.specs.Prelude.{IsTrue}
 use Rattle.ir_types.specs.declared.tree.Raw.{Raw}
@@ -7,7 +7,7 @@ use Rattle.ir_lexer.specs.Lexeme.{Lexeme, lexeme}
 use Rattle.ir_lexer.specs.declared.token.Token.{Token}
 use Rattle.ir_lexer.specs.declared.token.TokenKind.TheVariants as kinds
 use Rattle.grammar.specs.Grammar.{Grammar, StopsAt}
-use Rattle.grammar.specs.Reading.{Reading, read}
+use Rattle.grammar.specs.Reading.{read}
 use Rattle.grammar.proofs.Determined.{spelled, stopped}
 use Rattle.grammar.proofs.ExactlyOne.{determined}
 use Rattle.ir_parser.specs.Module.{module_text}

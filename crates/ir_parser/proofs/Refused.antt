@@ -1,11 +1,10 @@
 -- The tokens before a stop and from it on, and the refusal there.
 use Rattle.std.proofs.Common.{◌≡◌, ℕ, zero, suc, List, [], ◌∷◌, ◌++◌, take, drop, map, Err, refl, ap}
 use Rattle.ir_types.specs.declared.span.Span.{Span}
-use Rattle.ir_types.specs.declared.tree.Raw.{Raw}
 use Rattle.ir_lexer.specs.Lexeme.{Lexeme}
 use Rattle.grammar.specs.Grammar.{StopsAt}
 use Rattle.ir_parser.specs.Module.{module_text}
-use Rattle.ir_parser.specs.Answers.{IsReadAs, Names, StopsSo}
+use Rattle.ir_parser.specs.Answers.{Names, StopsSo}
 use Rattle.ir_parser.specs.declared.parsing.ParseError.{ParseError}
 use Rattle.ir_parser.specs.declared.parsing.ParseError.TheVariants.{Syntax, OutOfProfile, NoMemory}
 

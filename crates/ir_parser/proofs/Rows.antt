@@ -1,5 +1,5 @@
 -- Worked rows: what words name and count, and the trees that texts spell, by computation alone.
-use Rattle.std.proofs.Common.{◌≡◌, ℕ, ◌+◌, pos, negsuc, ◌^◌, ◌-◌, List, [], ◌∷◌, Some, None, Result, Ok, Err, refl, codes, true, false}
+use Rattle.std.proofs.Common.{◌≡◌, ℕ, pos, negsuc, ◌^◌, ◌-◌, List, [], ◌∷◌, Some, None, Ok, Err, refl, codes, true, false}
 use Rattle.mc_num.specs.declared.op.Width.TheVariants.{I1, I8, I16, I32, I64}
 use Rattle.mc_num.specs.declared.op.Bin.TheVariants as bin
 use Rattle.mc_num.specs.declared.op.Pred.TheVariants as pred
@@ -12,13 +12,8 @@ use Rattle.ir_types.specs.declared.name.Name.TheVariants.{Text, Number}
 use Rattle.ir_types.specs.declared.tree.Ty.TheVariants.{Int, Void, Ptr}
 use Rattle.ir_types.specs.declared.tree.Address.TheVariants as addresses
 use Rattle.ir_types.specs.declared.tree.RawValue.TheVariants as values
-use Rattle.ir_types.specs.declared.tree.RawKind.{RawKind}
 use Rattle.ir_types.specs.declared.tree.RawKind.TheVariants as forms
-use Rattle.ir_types.specs.declared.tree.RawInstr.{RawInstr}
-use Rattle.ir_types.specs.declared.tree.RawTerm.{RawTerm}
 use Rattle.ir_types.specs.declared.tree.RawTerm.TheVariants as terms
-use Rattle.ir_types.specs.declared.tree.RawBlock.{RawBlock}
-use Rattle.ir_types.specs.declared.tree.Raw.{Raw}
 use Rattle.ir_lexer.specs.Lexeme.{Lexeme}
 use Rattle.ir_lexer.specs.Pieces.{name_piece, sign_piece, quoted_piece, run_piece, piece_of}
 use Rattle.ir_lexer.specs.Tokens.{Lexing, tokens_of}

@@ -4,7 +4,7 @@ use Rattle.std.specs.Prelude.{All, IfSome}
 use Rattle.std.specs.List.{AllByRecursion}
 use Rattle.std.proofs.lemmas.List.Elements.{All-cons, recursion_from_All}
 use Rattle.grammar.specs.Grammar.{SpellsAll}
-use Rattle.grammar.proofs.Yields.{YieldsFrom, anything, of_kind, of_pair, of_gives, of_first, of_second, of_choice, of_optional, of_repeated, of_provided, of_led}
+use Rattle.grammar.proofs.Yields.{YieldsFrom, anything, of_kind, of_pair, of_gives, of_first, of_second, of_choice, of_optional, of_repeated, of_led}
 use Rattle.ir_types.specs.Names.{IsNameText}
 use Rattle.ir_types.specs.Written.{IsWritten, IsDefinable, IsResultType, IsLiteral, IsSpelledArgument, IsSpelledKind, IsSpelledInstr, IsSpelledCase, IsSpelledTerm, IsSpelledBlock, IsSpelledFunction, IsSpelledGlobal, IsSpelledTree}
 use Rattle.ir_types.specs.declared.span.At.{At}
@@ -12,11 +12,8 @@ use Rattle.ir_types.specs.declared.span.Span.{Span}
 use Rattle.ir_types.specs.declared.name.Name.{Name}
 use Rattle.ir_types.specs.declared.tree.Ty.{Ty}
 use Rattle.ir_types.specs.declared.tree.RawValue.TheVariants as values
-use Rattle.ir_types.specs.declared.tree.RawArg.{RawArg}
 use Rattle.ir_types.specs.declared.tree.RawTerm.{RawTerm}
 use Rattle.ir_types.specs.declared.tree.RawParam.{RawParam}
-use Rattle.ir_types.specs.declared.tree.RawFunction.{RawFunction}
-use Rattle.ir_types.specs.declared.tree.RawGlobal.{RawGlobal}
 use Rattle.ir_types.specs.declared.tree.Raw.{Raw}
 use Rattle.ir_lexer.specs.Lexeme.{Lexeme, lexeme}
 use Rattle.ir_lexer.specs.Texts.{IsText}

@@ -1,9 +1,8 @@
 -- What the reading of a whole list of tokens answers.
-use Rattle.std.specs.Prelude.{◌≡◌, ℕ, Bool, true, false, List, [], ◌∷◌, ◌++◌, Result, Ok, Err, map, take, drop}
+use Rattle.std.specs.Prelude.{◌≡◌, Bool, true, false, List, [], ◌∷◌, ◌++◌, Result, Ok, Err}
 use Rattle.ir_types.specs.declared.span.Span.{Span}
 use Rattle.ir_types.specs.declared.tree.Raw.{Raw}
-use Rattle.ir_lexer.specs.Lexeme.{Lexeme, lexeme}
-use Rattle.ir_lexer.specs.declared.token.Token.{Token}
+use Rattle.ir_lexer.specs.Lexeme.{Lexeme}
 use Rattle.grammar.specs.Grammar.{StopsAt}
 use Rattle.ir_parser.specs.Module.{module_text}
 use Rattle.ir_parser.specs.Profile.{IsOutOfProfile}

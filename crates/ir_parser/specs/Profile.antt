@@ -1,15 +1,13 @@
--- What a text of the whole language may have where this grammar can't go on: then the stop is out of the profile,
--- and otherwise it is an error of syntax.
-use Rattle.std.specs.Prelude.{◌≡◌, ℕ, Bool, ◌&&◌, ◌||◌, not, ◌==◌, ◌⊎◌, List, [], ◌∷◌, ◌++◌, length, drop, IsTrue, codes}
+-- What LLVM's language has and this grammar doesn't: a stop at such a token is out of the profile, and any other stop
+-- is an error of syntax.
+use Rattle.std.specs.Prelude.{ℕ, Bool, ◌&&◌, ◌||◌, not, ◌==◌, ◌⊎◌, List, [], ◌∷◌, ◌++◌, length, drop, IsTrue, codes}
 use Rattle.std.specs.Str.{bytes_eq}
 use Rattle.std.specs.List.{list_all, list_any}
 use Rattle.ir_types.specs.Bytes.{heads, is_digit}
-use Rattle.ir_types.specs.declared.span.Span.{Span}
 use Rattle.ir_lexer.specs.Lexeme.{Lexeme}
 use Rattle.ir_lexer.specs.declared.token.TokenKind.{TokenKind}
 use Rattle.ir_lexer.specs.declared.token.TokenKind.TheVariants as kinds
 use Rattle.grammar.specs.Grammar.{StopsAt}
-use Rattle.ir_parser.specs.Tokens.{is_numbered}
 use Rattle.ir_parser.specs.Module.{module_text}
 
 -- ---- closed words

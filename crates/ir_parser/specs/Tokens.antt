@@ -8,7 +8,7 @@ use Rattle.ir_types.specs.declared.name.Name.{Name}
 use Rattle.ir_lexer.specs.Lexeme.{Lexeme}
 use Rattle.ir_lexer.specs.declared.token.TokenKind.{TokenKind}
 use Rattle.ir_lexer.specs.declared.token.TokenKind.TheVariants as kinds
-use Rattle.grammar.specs.Grammar.{Grammar, token, pair, choice, optional, repeated, gives}
+use Rattle.grammar.specs.Grammar.{Grammar, token, pair, choice, repeated, gives}
 use Rattle.ir_parser.specs.Words.{local_name, global_name}
 
 -- ---- tests

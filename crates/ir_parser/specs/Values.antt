@@ -16,7 +16,7 @@ use Rattle.ir_types.specs.declared.tree.RawValue.{RawValue}
 use Rattle.ir_types.specs.declared.tree.RawValue.TheVariants as values
 use Rattle.ir_lexer.specs.declared.token.TokenKind.TheVariants as kinds
 use Rattle.grammar.specs.Grammar.{token, repeated, gives}
-use Rattle.ir_parser.specs.Words.{local_name, global_name, literal}
+use Rattle.ir_parser.specs.Words.{local_name, literal}
 use Rattle.ir_parser.specs.Tokens.{G, Table, ◌~◌, ◌▸◌, ◌∣◌, dropped, a, word, one_of, comma, at, local, global, one_from, is_group}
 
 -- ---- types

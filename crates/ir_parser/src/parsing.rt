@@ -23,7 +23,7 @@ use std::alloc::Global;
 pub enum ParseError {
     /// The place of the first token at which the grammar can't go on, or the end.
     Syntax(Span),
-    /// The place of such a token, where a text of the whole language may have it.
+    /// The place of such a token, where LLVM's language has it and this grammar doesn't.
     OutOfProfile(Span),
     /// An allocation was refused.
     NoMemory,

@@ -1,4 +1,4 @@
-//! Whether the token at which reading stops is one that a text of the whole language may have.
+//! Whether the token at which reading stops is one that LLVM's language has there.
 
 ghost use Rattle.std.specs.Prelude.{◌≡◌, IfOk, map, take, drop};
 ghost use Rattle.ir_lexer.specs.Lexeme.{lexeme};

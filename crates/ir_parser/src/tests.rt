@@ -24,7 +24,7 @@ fn ending_of(alloc: Global, tokens: &[Token], end: Span) -> Ending {
     }
 }
 
-fn ending(alloc: Global, text: &[u8]) -> Ending {
+fn ending_of_text(alloc: Global, text: &[u8]) -> Ending {
     if text.len() > 4096 {
         return Ending::Failed;
     }
@@ -56,7 +56,7 @@ fn reads_each_phrase(rt: HostRuntime) -> Result<(), Fail> {
     ];
     for text in texts {
         assert_eq!(rt;
-            ending(rt.alloc(), text.as_bytes()),
+            ending_of_text(rt.alloc(), text.as_bytes()),
             Ending::Read,
             "of {text}"
         );
@@ -67,7 +67,7 @@ fn reads_each_phrase(rt: HostRuntime) -> Result<(), Fail> {
 /// What the front of the text is, and what follows it from the stop on.
 fn ending_behind(alloc: Global, front: &str, rest: &str) -> Result<Ending, Fail> {
     let text = format!(in alloc; "{front}{rest}")?;
-    Ok(ending(alloc, text.as_bytes()))
+    Ok(ending_of_text(alloc, text.as_bytes()))
 }
 
 fn length(text: &str) -> u32 {
@@ -89,6 +89,21 @@ fn stops_by_syntax(rt: HostRuntime) -> Result<(), Fail> {
         ("declare i32 @f(i32, ", ")"),
         ("declare i32 @f() ", "#dbg"),
         ("define i32 ", "%f() {"),
+    ];
+    for (front, rest) in cases {
+        let wanted = Ending::Syntax(length(front));
+        assert_eq!(rt;
+            ending_behind(rt.alloc(), front, rest)?,
+            wanted,
+            "behind {front}"
+        );
+    }
+    Ok(())
+}
+
+#[test]
+fn stops_by_syntax_in_a_body(rt: HostRuntime) -> Result<(), Fail> {
+    let cases = [
         ("define i32 @f() { ", "}"),
         ("define i32 @f() { %a = ", "store i32 0, ptr %a }"),
         ("define i32 @f() { %a = load i32, ", "i32* %a }"),
@@ -139,6 +154,21 @@ fn stops_out_of_profile(rt: HostRuntime) -> Result<(), Fail> {
         ("@g = global ", "i128 0"),
         ("@g = global i32 ", "zeroinitializer"),
         ("define i32 @f(i32 ", "* %p) {"),
+    ];
+    for (front, rest) in cases {
+        let wanted = Ending::Out(length(front));
+        assert_eq!(rt;
+            ending_behind(rt.alloc(), front, rest)?,
+            wanted,
+            "behind {front}"
+        );
+    }
+    Ok(())
+}
+
+#[test]
+fn stops_out_of_profile_in_a_body(rt: HostRuntime) -> Result<(), Fail> {
+    let cases = [
         ("define i32 @f() { ", "#dbg_value(i32 0) ret i32 0 }"),
         ("define i32 @f() { ", "invoke void @g() }"),
         ("define i32 @f() { %a = load ", "[2 x i32], ptr %p }"),
@@ -184,14 +214,14 @@ define i32 @main(i1 %c) { %a = alloca i32 store i32 undef, ptr %a %x = load i32,
 %u = call i32 @f(i32 noundef %v, ptr %a) #1 br i1 %w, label %l, label %m
 l: switch i32 %u, label %m [ i32 1, label %m ] m: %p = phi i32 [ 0, %l ], [ %u, %0 ], align 1 ret i32 %p }";
     let end = end_of(text);
-    let mut whole = 0;
+    let mut whole: u32 = 0;
     let mut tokens = Vec::new(rt.alloc());
     if let Ok(lexed) = lex(rt.alloc(), text) {
         tokens = lexed;
     }
     for count in 0..=tokens.len() {
         match ending_of(rt.alloc(), front(&tokens, count), end) {
-            Ending::Read => whole += 1,
+            Ending::Read => whole = whole.saturating_add(1),
             other => assert_eq!(rt; other, Ending::Syntax(end.start), "of {count} tokens"),
         }
     }

@@ -11,9 +11,10 @@ use Rattle.ir_types.specs.declared.syntax.Kind.TheVariants.{Call}
 use Rattle.ir_types.specs.declared.tree.RawArg.{RawArg}
 use Rattle.ir_types.specs.declared.tree.Ty.{Ty}
 
--- the callee, and then the arguments where its parameters are due
+-- what is wrong with the callee of a call, or with the arguments where its parameters are due
 abbrev pub call_problem : Context → Here → Ty → Bool → At (List ℕ) → List RawArg → Option Problem
 call_problem c here type named callee args = callee_problem c type named (length args) callee >> arguments_problem c here (params_of c callee.item) args
 
+-- what the call does
 abbrev pub call_of : Context → List ℕ → List RawArg → Kind
 call_of c callee args = Call (function_number c callee) (map (argument_of c) args)

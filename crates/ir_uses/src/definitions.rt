@@ -60,10 +60,11 @@ impl<'a> Definitions<'a> {
     fn add(&mut self, name: Name<'a>, meaning: Meaning) -> Result<(), AllocError>
         ensures { OnOk result (self.new ≡ record { meanings = with_meaning self.old.meanings name.entry meaning; next = self.old.next }) }
     {
-        if self.meanings.get(&name).is_some() {
-            return Ok(());
+        // A second definition of a name is rare, so the first is put back rather than looked for.
+        let again = name.copied();
+        if let Some(first) = self.meanings.insert(name, meaning)? {
+            self.meanings.insert(again, first)?;
         }
-        self.meanings.insert(name, meaning)?;
         Ok(())
     }
 

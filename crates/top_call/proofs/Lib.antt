@@ -1,2 +1,3 @@
+pub mod Excerpts
 mod ReadLemmas
 pub mod WriteLemmas

@@ -1,5 +1,6 @@
 pub mod Row
 pub mod Command
+pub mod Refused
 pub mod Print
 pub mod Stops
 pub mod Ending

@@ -3,12 +3,13 @@ use Rattle.std.specs.Prelude.{◌≡◌, ◌≢◌, ◌⊎◌, ◌^◌, ◌<◌,
 use Rattle.mc_host.specs.Faults.{Rose}
 use Rattle.mc_host.specs.Host.{HostState, IsBeforeOrPart, KeepsRights}
 use Rattle.top_call.specs.declared.ending.Problem.{Problem}
-use Rattle.top_call.specs.declared.ending.Problem.TheVariants.{TooLong, NotYet, Grown}
+use Rattle.top_call.specs.declared.ending.Problem.TheVariants.{TooLong, Text, Grown}
 use Rattle.top_call.specs.declared.ending.Stop.TheVariants.{Usage, Refused, ReadFault, WriteFault, OutOfMemory}
 use Rattle.top_call.specs.Ending.{Ending}
 use Rattle.ir_types.specs.Program.{Program}
 use Rattle.ir_printer.specs.Text.{text_of}
-use Rattle.ir_reader.specs.Reading.{Reads, ReadsBack}
+use Rattle.ir_reader.specs.Reading.{Reads, Refuses, ReadsBack}
+use Rattle.top_call.specs.Refused.{place_of, excerpt_at}
 
 -- how many bytes a text has at most
 abbrev pub text_limit : ℕ
@@ -29,12 +30,13 @@ pub record PrintsAs (host : HostState) (input text : List ℕ) : Type 0 where
   pub fits : length text ≤ text_limit
   pub back : ReadsBack program
 
--- the file has this problem: it is too long, or it isn't of the first form, or its text would be too long
+-- the file has this problem: it is too long, or its text is refused, told with the text's bytes at that place, or the
+-- text of what it reads as would be too long
 abbrev pub HasProblem : HostState → List ℕ → Problem → Type 0
 HasProblem host input TooLong = (content : List ℕ) × (host.file input ≡ Some content) × (text_limit < length content)
-HasProblem host input NotYet =
+HasProblem host input (Text refusal excerpt) =
     (content : List ℕ) × (host.file input ≡ Some content) × (length content ≤ text_limit)
-    × ((program : Program) → ¬ (Reads content program))
+    × Refuses content refusal × (excerpt.now ≡ excerpt_at content (place_of refusal))
 HasProblem host input Grown = (program : Program) × ReadsAs host input program × (text_limit < length (text_of program))
 
 -- the file that is written is as before, or holds a first part of its text, which may be all of it

@@ -2,13 +2,20 @@
 ghost use Rattle.std.specs.Prelude.{◌≡◌};
 ghost use Rattle.top_call.specs.Ending.{status_of};
 
+use ir_reader::Refusal;
+
 /// Why a file is refused.
 #[derive(Clone, Copy, Debug, PartialEq, Eq)]
-pub enum Problem {
+pub enum Problem<'a> {
     /// It has more than 2^26 bytes.
     TooLong,
-    /// It isn't of the first form.
-    NotYet,
+    /// Its text is refused.
+    Text {
+        /// Why, and where.
+        refusal: Refusal,
+        /// The text's bytes at that place, at most 40 of them.
+        excerpt: &'a [u8],
+    },
     /// The text for the file that is written would have more than 2^26 bytes.
     Grown,
 }
@@ -23,7 +30,7 @@ pub enum Stop<'a> {
         /// The file's name.
         file: &'a str,
         /// What is wrong with it.
-        problem: Problem,
+        problem: Problem<'a>,
     },
     /// A file could not be read.
     ReadFault {

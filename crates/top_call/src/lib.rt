@@ -5,6 +5,7 @@ mod command;
 mod ending;
 mod lines;
 mod print;
+mod refused;
 mod top;
 
 pub use ending::{Problem, Stop};

@@ -1,31 +1,76 @@
 //! The line of an ending, put in pieces.
-ghost use Rattle.std.specs.Prelude.{◌≡◌};
+ghost use Rattle.std.specs.Prelude.{◌≡◌, ◌++◌, codes, Err};
 ghost use Rattle.mc_host.specs.Streams.{Puts};
-ghost use Rattle.top_call.specs.Ending.{line_of, refusal_text};
+ghost use Rattle.top_call.specs.Ending.{status_of, line_of, refusal_text};
+ghost use Rattle.top_call.specs.Lines.{Gains};
+ghost use Rattle.top_call.specs.Refused.{cause_text, refused_text};
 
-use crate::ending::{Problem, Stop};
+use crate::ending::{Problem, Stop, status_of};
+use crate::refused::{advice_text, hex_text, place_of, rule_text, space_before};
+use ir_reader::Refusal;
+use itoa::Buffer;
 use mc_host::{Failed, Sink, put_all};
 
-fn refusal_text<'a>(problem: Problem) -> &'a [u8]
-    ensures { result.now ≡ refusal_text problem }
+/// Puts what is wrong with a text.
+fn put_cause<S: Sink>(sink: &mut S, refusal: Refusal, excerpt: &[u8]) -> Result<(), Failed>
+    ensures { Puts (cause_text refusal excerpt.now) result (S.state sink.old) (S.state sink.new) }
 {
-    match problem {
-        Problem::TooLong => b": E1 TooLong\n",
-        Problem::NotYet => b": E0 NotYet\n",
-        Problem::Grown => b": E17 Grown\n",
+    match refusal {
+        Refusal::BadByte(_, byte) => {
+            let digits = hex_text(byte);
+            sink.put(b"E2 BadByte 0x")?;
+            sink.put(&digits)
+        }
+        Refusal::Syntax(_) => put_all(sink, &[b"E3 Syntax", space_before(excerpt), excerpt]),
+        Refusal::OutOfProfile(_) => put_all(sink, &[b"E4 OutOfProfile", space_before(excerpt), excerpt]),
+        Refusal::Broken(problem) => put_all(
+            sink,
+            &[rule_text(problem.rule), space_before(excerpt), excerpt, advice_text(problem.rule)],
+        ),
     }
 }
 
-// Puts the line of a call that stopped.
+/// Puts what the line of a refused text says behind the file's name.
+fn put_refused<S: Sink>(sink: &mut S, refusal: Refusal, excerpt: &[u8]) -> Result<(), Failed>
+    ensures { Puts (refused_text refusal excerpt.now) result (S.state sink.old) (S.state sink.new) }
+{
+    let mut digits = Buffer::new();
+    let line = digits.format(place_of(refusal).line).as_bytes();
+    put_all(sink, &[b":", line, b": "])?;
+    put_cause(sink, refusal, excerpt)?;
+    sink.put(b"\n")
+}
+
+/// Puts what the line of a refusal says behind the file's name.
+fn put_problem<S: Sink>(sink: &mut S, problem: Problem<'_>) -> Result<(), Failed>
+    ensures { Puts (refusal_text problem.entry) result (S.state sink.old) (S.state sink.new) }
+{
+    match problem {
+        Problem::TooLong => sink.put(b": E1 TooLong\n"),
+        Problem::Text { refusal, excerpt } => put_refused(sink, refusal, excerpt),
+        Problem::Grown => sink.put(b": E17 Grown\n"),
+    }
+}
+
+/// Puts the line of a refused file.
+fn put_file_refused<S: Sink>(
+    sink: &mut S,
+    file: &str,
+    problem: Problem<'_>,
+) -> Result<(), Failed>
+    ensures { Puts (codes "mcpre: " ++ (file.now ++ refusal_text problem.entry)) result (S.state sink.old) (S.state sink.new) }
+{
+    put_all(sink, &[b"mcpre: ", file.as_bytes()])?;
+    put_problem(sink, problem)
+}
+
+/// Puts the line of a call that stopped.
 fn put_stop<S: Sink>(sink: &mut S, stop: Stop<'_>) -> Result<(), Failed>
     ensures { Puts (line_of (Err stop.entry)) result (S.state sink.old) (S.state sink.new) }
 {
     match stop {
         Stop::Usage => put_all(sink, &[b"mcpre: usage\n"]),
-        Stop::Refused { file, problem } => put_all(
-            sink,
-            &[b"mcpre: ", file.as_bytes(), refusal_text(problem)],
-        ),
+        Stop::Refused { file, problem } => put_file_refused(sink, file, problem),
         Stop::ReadFault { name } => {
             put_all(sink, &[b"mcpre: read fault: ", name.as_bytes(), b"\n"])
         }
@@ -37,11 +82,20 @@ fn put_stop<S: Sink>(sink: &mut S, stop: Stop<'_>) -> Result<(), Failed>
 }
 
 /// Puts the line of an ending.
-pub(crate) fn put_line<S: Sink>(sink: &mut S, ending: Result<(), Stop<'_>>) -> Result<(), Failed>
+fn put_line<S: Sink>(sink: &mut S, ending: Result<(), Stop<'_>>) -> Result<(), Failed>
     ensures { Puts (line_of ending.entry) result (S.state sink.old) (S.state sink.new) }
 {
     match ending {
         Ok(()) => Ok(()),
         Err(stop) => put_stop(sink, stop),
     }
+}
+
+/// Puts the line of an ending, and gives its status. A sink that fails changes no status.
+pub(crate) fn finish<S: Sink>(sink: &mut S, ending: Result<(), Stop<'_>>) -> u8
+    ensures status { result ≡ status_of ending.entry }
+    ensures line { Gains (line_of ending.entry) (S.state sink.old) (S.state sink.new) }
+{
+    let _ = put_line(sink, ending);
+    status_of(&ending)
 }

@@ -1,26 +1,24 @@
 //! The command `print`: reads a file, and writes its text to another.
-ghost use Rattle.std.specs.Prelude.{◌≡◌, ◌⊎◌, ◌≤◌, List, ℕ, length, IsTrue, IsOk, IfOk, OnOk, OnErr, IfErr, Some};
-ghost use Rattle.mc_host.specs.Faults.{Rose};
-ghost use Rattle.mc_host.specs.Host.{OnlyReads, OnlyWrites, IsBeforeOrPart};
-ghost use Rattle.top_call.specs.declared.ending.Problem.{Problem};
-ghost use Rattle.top_call.specs.Ending.{status_of};
-ghost use Rattle.top_call.specs.Print.{text_limit, PrintEnds, PrintsAs, HasProblem, OnlyPrints};
+ghost use Rattle.std.specs.Prelude.{◌≡◌, ◌≤◌, length, IsTrue, IfOk, OnOk, OnErr, IfErr, Some};
+ghost use Rattle.mc_host.specs.Host.{HostState, OnlyReads, OnlyWrites, IsBeforeOrPart};
+ghost use Rattle.top_call.specs.Lines.{Answers};
+ghost use Rattle.top_call.specs.Print.{text_limit, PrintEnds, OnlyPrints};
 ghost use Rattle.top_call.specs.Stops.{StopsReading, StopsParsing, StopsPrinting, StopsWriting};
-ghost use Rattle.ir_types.specs.FirstForm.{IsFirstModule};
-ghost use Rattle.ir_types.specs.Program.{Program};
 ghost use Rattle.ir_printer.specs.Text.{text_of};
 ghost use Rattle.ir_reader.specs.Reading.{Reads, ReadsBack};
 
 use crate::ending::{Problem, Stop};
+use crate::lines::finish;
+use crate::refused::{excerpt_at, place_of};
 use ir_reader::{ReadError, read};
 use ir_types::module::Module;
-use mc_host::{Host, HostError};
+use mc_host::{Host, HostError, Sink};
 use std::alloc::Global;
 
 /// How many bytes a text has at most.
 const TEXT_LIMIT: usize = 1 << 26;
 
-// Reads a file that has at most as many bytes as a text may have.
+/// Reads a file that has at most as many bytes as a text may have.
 fn read_short<'a, H: Host>(alloc: Global, host: &mut H, name: &'a str) -> Result<Vec<u8>, Stop<'a>>
     requires { IsTrue ((H.state host.old).may_read name.now) }
     ensures read { IfOk result (λ bytes. IsTrue (H.state host.old).tells → (H.state host.old).file name.now ≡ Some bytes.items) }
@@ -39,28 +37,26 @@ fn read_short<'a, H: Host>(alloc: Global, host: &mut H, name: &'a str) -> Result
     }
 }
 
-// The module that the bytes of a file spell.
-fn parsed<'a, 's>(alloc: Global, file: &'a str, source: &'s [u8]) -> Result<Module<'s>, Stop<'a>>
+/// The module that the bytes of a file spell.
+fn parsed<'a>(alloc: Global, file: &'a str, source: &'a [u8]) -> Result<Module<'a>, Stop<'a>>
     requires { length source.now ≤ text_limit }
     ensures read { IfOk result (Reads source.now) }
-    ensures only { IfOk result (λ program. (other : Program) → Reads source.now other → other ≡ program) }
-    ensures first { IfOk result IsFirstModule }
     ensures back { IfOk result ReadsBack }
     ensures stops { IfErr result (StopsParsing file.now source.now) }
 {
     match read(alloc, source) {
         Ok(module) => Ok(module),
-        Err(ReadError::NotYet) => Err(Stop::Refused {
-            file,
-            problem: Problem::NotYet,
-        }),
+        Err(ReadError::Refused(refusal)) => {
+            let excerpt = excerpt_at(source, place_of(refusal));
+            let problem = Problem::Text { refusal, excerpt };
+            Err(Stop::Refused { file, problem })
+        }
         Err(ReadError::NoMemory) => Err(Stop::OutOfMemory),
     }
 }
 
-// The text of a module.
+/// The text of a module.
 fn printed<'a>(alloc: Global, file: &'a str, program: &Module<'_>) -> Result<Vec<u8>, Stop<'a>>
-    requires { IsFirstModule program.now }
     ensures text { IfOk result (λ text. text.items ≡ text_of program.now) }
     ensures short { IfOk result (λ text. length text.items ≤ text_limit) }
     ensures stops { IfErr result (StopsPrinting file.now program.now) }
@@ -77,7 +73,7 @@ fn printed<'a>(alloc: Global, file: &'a str, program: &Module<'_>) -> Result<Vec
     Ok(text)
 }
 
-// Writes a file.
+/// Writes a file.
 fn write_text<'a, H: Host>(
     alloc: Global,
     host: &mut H,
@@ -97,26 +93,45 @@ fn write_text<'a, H: Host>(
     }
 }
 
-/// Writes the text of the file `input` to the file `output`. What stops it, and what it then leaves, is told by each
-/// ending of `PrintEnds`.
-pub(crate) fn print_file<'a, H: Host>(
+/// Writes the text of what `source` reads as to the file `output`; `source` are the bytes of the file `input`.
+fn print_source<'a, H: Host>(
     alloc: Global,
     host: &mut H,
     input: &'a str,
     output: &'a str,
+    source: &'a [u8],
 ) -> Result<(), Stop<'a>>
-    requires input { IsTrue ((H.state host.old).may_read input.now) }
+    requires short { length source.now ≤ text_limit }
     requires output { IsTrue ((H.state host.old).may_write output.now) }
-    ensures ends { PrintEnds input.now output.now (H.state host.old) (H.state host.new) result }
-    ensures rest { OnlyPrints output.now (H.state host.old) (H.state host.new) }
-    ensures not_done { IsTrue (H.state host.old).tells → (problem : Problem) → HasProblem (H.state host.old) input.now problem →
-        (status_of result ≡ 1) ⊎ (status_of result ≡ 3) ⊎ (status_of result ≡ 5) }
-    ensures complete { IsTrue (H.state host.old).tells → ((text : List ℕ) × PrintsAs (H.state host.old) input.now text) →
-        ¬ (Rose (H.state host.old).read_faults (H.state host.new).read_faults) →
-        ¬ (Rose (H.state host.old).write_faults (H.state host.new).write_faults) → (status_of result ≡ 0) ⊎ (status_of result ≡ 5) }
+    // However the host stood before IN was read.
+    ensures ends { (before : HostState) → OnlyReads before (H.state host.old) → (IsTrue before.tells → before.file input.now ≡ Some source.now) →
+        PrintEnds input.now output.now before (H.state host.new) result }
+    ensures rest { OnlyWrites output.now (H.state host.old) (H.state host.new) }
 {
-    let source = read_short(alloc, host, input)?;
-    let module = parsed(alloc, input, &source)?;
+    let module = parsed(alloc, input, source)?;
     let text = printed(alloc, input, &module)?;
     write_text(alloc, host, output, &text)
+}
+
+/// Writes the text of the file `input` to the file `output`, puts the line of its ending, and gives its status. What
+/// stops it, and what it then leaves, is told by each ending of `PrintEnds`.
+pub(crate) fn print_file<H: Host, E: Sink>(
+    alloc: Global,
+    host: &mut H,
+    err: &mut E,
+    input: &str,
+    output: &str,
+) -> u8
+    requires input { IsTrue ((H.state host.old).may_read input.now) }
+    requires output { IsTrue ((H.state host.old).may_write output.now) }
+    ensures ends { Answers (E.state err.old) (E.state err.new) result (PrintEnds input.now output.now (H.state host.old) (H.state host.new)) }
+    ensures rest { OnlyPrints output.now (H.state host.old) (H.state host.new) }
+{
+    match read_short(alloc, host, input) {
+        Ok(source) => {
+            let ending = print_source(alloc, host, input, output, &source);
+            finish(err, ending)
+        }
+        Err(stop) => finish(err, Err(stop)),
+    }
 }

@@ -2,31 +2,26 @@
 ghost use Rattle.std.specs.Prelude.{◌≡◌, ◌⊎◌, ◌↔◌, ◌≤◌, ℕ, List, IsTrue, IsNone};
 ghost use Rattle.mc_host.specs.Faults.{Rose};
 ghost use Rattle.top_call.specs.Row.{row_of, texts};
-ghost use Rattle.top_call.specs.Ending.{Ending, status_of, line_of};
-ghost use Rattle.top_call.specs.Lines.{Gains};
+ghost use Rattle.top_call.specs.Lines.{Answers};
 ghost use Rattle.top_call.specs.Top.{MayDo, Ends, Writes, IsRefused, IsAccepted, IsDone, IsPartlyDone};
 
 use crate::command::{Command, command_of};
-use crate::ending::{Stop, status_of};
-use crate::lines::put_line;
+use crate::ending::Stop;
+use crate::lines::finish;
 use crate::print::print_file;
+use ir_reader::one_answer;
 use mc_host::{Host, Sink, Source};
 use std::alloc::Global;
 
-// Does what the words ask for.
-fn answer<'a, H: Host>(alloc: Global, words: &'a [String], host: &mut H) -> Result<(), Stop<'a>>
+/// Does what the words ask for, with the line on `err`, and gives the status.
+fn answer<H: Host, E: Sink>(alloc: Global, words: &[String], host: &mut H, err: &mut E) -> u8
     requires { MayDo (row_of (texts words.now)) (H.state host.old) }
-    ensures ends { Ends (row_of (texts words.now)) (H.state host.old) (H.state host.new) result }
+    ensures ends { Answers (E.state err.old) (E.state err.new) result (Ends (row_of (texts words.now)) (H.state host.old) (H.state host.new)) }
     ensures files { (name : List ℕ) → ¬ (Writes (row_of (texts words.now)) name) → (H.state host.new).file name ≡ (H.state host.old).file name }
-    ensures not_done { IsTrue (H.state host.old).tells → IsRefused (row_of (texts words.now)) (H.state host.old) →
-        (status_of result ≡ 1) ⊎ (status_of result ≡ 3) ⊎ (status_of result ≡ 5) }
-    ensures complete { IsTrue (H.state host.old).tells → IsAccepted (row_of (texts words.now)) (H.state host.old) →
-        ¬ (Rose (H.state host.old).read_faults (H.state host.new).read_faults) →
-        ¬ (Rose (H.state host.old).write_faults (H.state host.new).write_faults) → (status_of result ≡ 0) ⊎ (status_of result ≡ 5) }
 {
     match command_of(words) {
-        None => Err(Stop::Usage),
-        Some(Command::Print { input, output }) => print_file(alloc, host, input, output),
+        None => finish(err, Err(Stop::Usage)),
+        Some(Command::Print { input, output }) => print_file(alloc, host, err, input, output),
     }
 }
 
@@ -40,7 +35,8 @@ fn answer<'a, H: Host>(alloc: Global, words: &'a [String], host: &mut H) -> Resu
 /// |---|---|---|
 /// | 0 | OUT holds the text | none |
 /// | 1 | IN has more than 2^26 bytes | `mcpre: IN: E1 TooLong` |
-/// | 1 | IN isn't of the first form | `mcpre: IN: E0 NotYet` |
+/// | 1 | a byte of IN starts no token | `mcpre: IN:LINE: E2 BadByte 0xNN` |
+/// | 1 | the grammar stops, or a rule is broken, at a token of IN or at its end | `mcpre: IN:LINE: CODE NAME EXCERPT` |
 /// | 1 | the text has more than 2^26 bytes | `mcpre: IN: E17 Grown` |
 /// | 2 | the words fit no row | `mcpre: usage` |
 /// | 3 | the host's count of reads that failed rose | `mcpre: read fault: IN` |
@@ -59,8 +55,7 @@ pub fn mcpre<H: Host, I: Source, O: Sink, E: Sink>(
     requires { MayDo (row_of (texts words.now)) (H.state host.old) }
 
     // Each row ends in one of its ways, each with its cause; the status and the line on `err` are of that ending.
-    ensures answers { (ending : Ending) × (result ≡ status_of ending) × Gains (line_of ending) (E.state err.old) (E.state err.new)
-        × Ends (row_of (texts words.now)) (H.state host.old) (H.state host.new) ending }
+    ensures answers { Answers (E.state err.old) (E.state err.new) result (Ends (row_of (texts words.now)) (H.state host.old) (H.state host.new)) }
     ensures statuses { result ≤ 5 }
 
     // The words alone decide whether there is a row.
@@ -93,7 +88,6 @@ pub fn mcpre<H: Host, I: Source, O: Sink, E: Sink>(
     ensures input { I.state input.new ≡ I.state input.old }
     ensures out { O.state out.new ≡ O.state out.old }
 {
-    let ending = answer(alloc, words, host);
-    let _ = put_line(err, ending);
-    status_of(&ending)
+    one_answer();
+    answer(alloc, words, host, err)
 }

@@ -1,8 +1,7 @@
-use Rattle.std.proofs.Common.{◌≤◌, All, length, rules, refl, sym, subst, arith}
+use Rattle.std.proofs.Common.{◌≤◌, All, length, rules, refl, subst, arith}
 use Rattle.std.proofs.lemmas.List.Elements.{All-more}
 use Rattle.std.proofs.lemmas.List.{take_all}
 use Rattle.ir_types.specs.Limits.{IsWithinLimits}
-use Rattle.ir_types.specs.declared.syntax.Function.{Function}
 use Rattle.ir_check.proofs.limits.within_limits.Goals as goal
 
 pub loop-function-preserved : goal.loop-function-preserved

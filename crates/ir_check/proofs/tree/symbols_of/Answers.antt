@@ -1,4 +1,4 @@
-use Rattle.std.proofs.Common.{◌≡◌, None, rules, ap, sym, ◌∙◌, arith}
+use Rattle.std.proofs.Common.{◌≡◌, None, rules, ap, sym, ◌∙◌}
 use Rattle.ir_types.specs.Rules.{Passed}
 use Rattle.ir_check.specs.Items.{item_in, next_item}
 use Rattle.ir_check.proofs.InOrder.{after_items-end, after_items-step, comes_first, found, none_left, not_found, shorter}

@@ -3,7 +3,7 @@ use Rattle.std.proofs.lemmas.Result.{err_from_is_err_and}
 use Rattle.ir_lexer.specs.Lexeme.{Lexeme, lexeme}
 use Rattle.grammar.specs.Grammar.{repeated}
 use Rattle.grammar.specs.Reading.{read}
-use Rattle.grammar.proofs.Rows.{with_front, shrinks, goes_on, halts}
+use Rattle.grammar.proofs.Rows.{with_front, shrinks, goes_on}
 use Rattle.ir_types.specs.declared.tree.RawBlock.{RawBlock}
 use Rattle.ir_parser.specs.Tokens.{led}
 use Rattle.ir_parser.specs.Terms.{block, blocks}
