@@ -1,5 +1,5 @@
 -- The numbers that a width holds.
-use Rattle.std.specs.Prelude.{ℕ, ℤ, pos, negsuc, ◌+◌, ◌-◌, ◌%◌, ◌^◌, nat_lt, Bool, true, false, Option, Some, None, if◌then◌else◌}
+use Rattle.std.specs.Prelude.{ℕ, ℤ, pos, negsuc, ◌+◌, ◌-◌, ◌%◌, ◌^◌, nat_lt, Bool, Option, Some, None, if◌then◌else◌}
 use Rattle.mc_num.specs.Op.{bits}
 use Rattle.mc_num.specs.declared.op.Width.{Width}
 use Rattle.ir_types.specs.declared.tree.RawValue.{RawValue}

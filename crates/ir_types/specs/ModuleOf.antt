@@ -41,7 +41,7 @@ use Rattle.ir_types.specs.declared.tree.RawFunction.{RawFunction}
 use Rattle.ir_types.specs.declared.tree.RawGlobal.{RawGlobal}
 use Rattle.ir_types.specs.declared.tree.Raw.{Raw}
 use Rattle.ir_types.specs.declared.tree.Ty.{Ty}
-use Rattle.ir_types.specs.declared.tree.Ty.TheVariants.{Int, Void, Ptr}
+use Rattle.ir_types.specs.declared.tree.Ty.TheVariants.{Int}
 
 -- ---- uses
 

@@ -1,11 +1,8 @@
 -- What is wrong with a tree: the first broken rule in text order, and at one place the one with the smallest number.
 use Rattle.std.specs.Prelude.{ℕ, ◌+◌, ◌==◌, ◌&&◌, ◌||◌, not, Bool, true, false, List, [], ◌∷◌, length, Option, Some, None, is_some, if◌then◌else◌, codes}
 use Rattle.std.specs.Str.{bytes_eq}
-use Rattle.mc_num.specs.declared.op.Width.{Width}
 use Rattle.mc_num.specs.declared.op.Width.TheVariants.{I1, I32}
-use Rattle.ir_types.specs.declared.span.At.{At}
 use Rattle.ir_types.specs.declared.span.Span.{Span}
-use Rattle.ir_types.specs.declared.name.Name.{Name}
 use Rattle.ir_types.specs.declared.rules.Rule.TheVariants as rule
 use Rattle.ir_types.specs.declared.rules.Problem.{Problem}
 use Rattle.ir_types.specs.declared.rules.Here.{Here}
@@ -19,10 +16,9 @@ use Rattle.ir_types.specs.declared.tree.RawTerm.TheVariants.{Return, Jump, Branc
 use Rattle.ir_types.specs.declared.tree.RawBlock.{RawBlock}
 use Rattle.ir_types.specs.declared.tree.RawParam.{RawParam}
 use Rattle.ir_types.specs.declared.tree.RawFunction.{RawFunction}
-use Rattle.ir_types.specs.declared.tree.RawGlobal.{RawGlobal}
 use Rattle.ir_types.specs.declared.tree.Raw.{Raw}
 use Rattle.ir_types.specs.declared.tree.Ty.{Ty}
-use Rattle.ir_types.specs.declared.tree.Ty.TheVariants.{Int, Void, Ptr}
+use Rattle.ir_types.specs.declared.tree.Ty.TheVariants.{Int, Void}
 use Rattle.ir_types.specs.Problems.{◌>>◌, broken}
 use Rattle.ir_types.specs.Definitions.{Defined, nothing, define, define_some, name_problem, symbol_name}
 use Rattle.ir_types.specs.Order.{Item, Global, Function, items_in_order}

@@ -8,7 +8,7 @@ use Rattle.mc_num.specs.declared.op.Width.TheVariants.{I1, I8, I16, I32, I64}
 use Rattle.mc_num.specs.declared.op.Op.TheVariants as op
 use Rattle.ir_types.specs.Names.{spelled}
 use Rattle.ir_types.specs.Program.{Program}
-use Rattle.ir_types.specs.Order.{Item, Global as GlobalItem, Function as FunctionItem, items_in_order}
+use Rattle.ir_types.specs.Order.{Global as GlobalItem, Function as FunctionItem, items_in_order}
 use Rattle.ir_types.specs.WellFormed.{scope, variable_width, widths}
 use Rattle.ir_types.specs.declared.span.At.{At}
 use Rattle.ir_types.specs.declared.name.Name.{Name}

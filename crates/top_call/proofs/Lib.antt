@@ -1,3 +1,4 @@
+pub mod Endings
 pub mod Excerpts
 mod ReadLemmas
 pub mod WriteLemmas

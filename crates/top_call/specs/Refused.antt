@@ -55,6 +55,10 @@ cause_text (Syntax span) excerpt = codes "E3 Syntax" ++ spaced excerpt
 cause_text (OutOfProfile span) excerpt = codes "E4 OutOfProfile" ++ spaced excerpt
 cause_text (Broken problem) excerpt = rule_text problem.rule ++ (spaced excerpt ++ advice_text problem.rule)
 
+-- the line of a place
+abbrev pub place_text : Span → List ℕ
+place_text span = codes ":" ++ (decimal span.line ++ codes ": ")
+
 -- the line, and what is wrong there
 abbrev pub refused_text : Refusal → List ℕ → List ℕ
-refused_text refusal excerpt = codes ":" ++ (decimal (place_of refusal).line ++ (codes ": " ++ (cause_text refusal excerpt ++ codes "\n")))
+refused_text refusal excerpt = place_text (place_of refusal) ++ (cause_text refusal excerpt ++ codes "\n")

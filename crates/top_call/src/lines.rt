@@ -3,13 +3,21 @@ ghost use Rattle.std.specs.Prelude.{◌≡◌, ◌++◌, codes, Err};
 ghost use Rattle.mc_host.specs.Streams.{Puts};
 ghost use Rattle.top_call.specs.Ending.{status_of, line_of, refusal_text};
 ghost use Rattle.top_call.specs.Lines.{Gains};
-ghost use Rattle.top_call.specs.Refused.{cause_text, refused_text};
+ghost use Rattle.top_call.specs.Refused.{spaced, cause_text, place_text, refused_text};
 
 use crate::ending::{Problem, Stop, status_of};
 use crate::refused::{advice_text, hex_text, place_of, rule_text, space_before};
 use ir_reader::Refusal;
+use ir_types::span::Span;
 use itoa::Buffer;
 use mc_host::{Failed, Sink, put_all};
+
+/// Puts a code with its name, and the excerpt.
+fn put_named<S: Sink>(sink: &mut S, name: &[u8], excerpt: &[u8]) -> Result<(), Failed>
+    ensures { Puts (name.now ++ spaced excerpt.now) result (S.state sink.old) (S.state sink.new) }
+{
+    put_all(sink, &[name, space_before(excerpt), excerpt])
+}
 
 /// Puts what is wrong with a text.
 fn put_cause<S: Sink>(sink: &mut S, refusal: Refusal, excerpt: &[u8]) -> Result<(), Failed>
@@ -21,22 +29,33 @@ fn put_cause<S: Sink>(sink: &mut S, refusal: Refusal, excerpt: &[u8]) -> Result<
             sink.put(b"E2 BadByte 0x")?;
             sink.put(&digits)
         }
-        Refusal::Syntax(_) => put_all(sink, &[b"E3 Syntax", space_before(excerpt), excerpt]),
-        Refusal::OutOfProfile(_) => put_all(sink, &[b"E4 OutOfProfile", space_before(excerpt), excerpt]),
+        Refusal::Syntax(_) => put_named(sink, b"E3 Syntax", excerpt),
+        Refusal::OutOfProfile(_) => put_named(sink, b"E4 OutOfProfile", excerpt),
         Refusal::Broken(problem) => put_all(
             sink,
-            &[rule_text(problem.rule), space_before(excerpt), excerpt, advice_text(problem.rule)],
+            &[
+                rule_text(problem.rule),
+                space_before(excerpt),
+                excerpt,
+                advice_text(problem.rule),
+            ],
         ),
     }
+}
+
+/// Puts the line of a place.
+fn put_place<S: Sink>(sink: &mut S, span: Span) -> Result<(), Failed>
+    ensures { Puts (place_text span) result (S.state sink.old) (S.state sink.new) }
+{
+    let mut digits = Buffer::new();
+    put_all(sink, &[b":", digits.format(span.line).as_bytes(), b": "])
 }
 
 /// Puts what the line of a refused text says behind the file's name.
 fn put_refused<S: Sink>(sink: &mut S, refusal: Refusal, excerpt: &[u8]) -> Result<(), Failed>
     ensures { Puts (refused_text refusal excerpt.now) result (S.state sink.old) (S.state sink.new) }
 {
-    let mut digits = Buffer::new();
-    let line = digits.format(place_of(refusal).line).as_bytes();
-    put_all(sink, &[b":", line, b": "])?;
+    put_place(sink, place_of(refusal))?;
     put_cause(sink, refusal, excerpt)?;
     sink.put(b"\n")
 }
@@ -53,14 +72,11 @@ fn put_problem<S: Sink>(sink: &mut S, problem: Problem<'_>) -> Result<(), Failed
 }
 
 /// Puts the line of a refused file.
-fn put_file_refused<S: Sink>(
-    sink: &mut S,
-    file: &str,
-    problem: Problem<'_>,
-) -> Result<(), Failed>
+fn put_file_refused<S: Sink>(sink: &mut S, file: &str, problem: Problem<'_>) -> Result<(), Failed>
     ensures { Puts (codes "mcpre: " ++ (file.now ++ refusal_text problem.entry)) result (S.state sink.old) (S.state sink.new) }
 {
-    put_all(sink, &[b"mcpre: ", file.as_bytes()])?;
+    sink.put(b"mcpre: ")?;
+    sink.put(file.as_bytes())?;
     put_problem(sink, problem)
 }
 
