@@ -414,6 +414,14 @@ const PLACES_OF_TYPES_AND_VALUES: &[(&str, &str)] = &[
         "define void @f() { load i8, ptr %a* unreachable }",
         "1: E4 OutOfProfile *",
     ),
+    (
+        "define void @f() {
+  %p = alloca ptr
+  ret void
+}",
+        "2: E4 OutOfProfile ptr",
+    ),
+    ("@x = external global i32", "1: E4 OutOfProfile external"),
     ("%t = type i8", "1: E4 OutOfProfile %t"),
     ("declare void @f() %t", "1: E4 OutOfProfile %t"),
     ("@a = global i8 0 %t", "1: E4 OutOfProfile %t"),
@@ -1220,6 +1228,10 @@ next:
         "1: E14 ConstantRange -2147483649",
     ),
     (
+        "define void @f() { %ab = add i8 256, 1 ret void }",
+        "1: E14 ConstantRange 256",
+    ),
+    (
         "define i64 @f() { ret i64 18446744073709551616 }",
         "1: E14 ConstantRange 18446744073709551616",
     ),
@@ -1275,10 +1287,11 @@ c:
   br label %d
 d:
 
+
   %x = phi i8 [ 1, %b ], [ %x, %c ], !dbg !0
   ret void
 }",
-        "8: E16 Phi phi (demote registers first)",
+        "9: E16 Phi phi (demote registers first)",
     ),
     (
         "define void @f() { phi i8 [ %q, %r ] ret void }",
@@ -1411,6 +1424,169 @@ const EXCERPTS: &[(&str, &str)] = &[
     ("define void @f(\n; )", "2: E3 Syntax"),
 ];
 
+/// The examples of docs/LANGUAGE.md that aren't in a table above.
+const EXAMPLES: &[(&str, &str)] = &[
+    (
+        "define void @f() { %\"a\" = alloca i8 % 5 }",
+        "1: E2 BadByte 0x25",
+    ),
+    (
+        "define void @f() { \"a\" unreachable }",
+        "1: E2 BadByte 0x22",
+    ),
+    ("@s = constant [2 x i8] c\"a\\00\"", "1: E2 BadByte 0x22"),
+    ("define i8 @f() { ret i8 0x10 }", "1: E3 Syntax 0x10"),
+    ("define i8 @f() { ret i8 0: }", "1: E3 Syntax 0:"),
+    (
+        "define i32 @f() { %1 = load i32, i32* %a ret i32 %1 }",
+        "1: E3 Syntax i32",
+    ),
+    (
+        "define void @f(i32* %p) { unreachable }",
+        "1: E4 OutOfProfile *",
+    ),
+    (
+        "define void @f() { %p = alloca ptr unreachable }",
+        "1: E4 OutOfProfile ptr",
+    ),
+    ("define i7 @f() { unreachable }", "1: E4 OutOfProfile i7"),
+    ("define i @f() { unreachable }", "1: E3 Syntax i"),
+    ("%s = type { i32 }", "1: E4 OutOfProfile %s"),
+    (
+        "@g = global [2 x i8] zeroinitializer",
+        "1: E4 OutOfProfile [",
+    ),
+    ("@g = external global i8", "1: E4 OutOfProfile external"),
+    ("@g = global i32 @h", "1: E3 Syntax @h"),
+    ("define i32 @f() { ret i32 @g }", "1: E4 OutOfProfile @g"),
+    (
+        "define void @f() { call void @g(ptr noundef @h) unreachable }",
+        "1: E4 OutOfProfile @h",
+    ),
+    (
+        "define void @f() { switch i8 0, label %a [ i8 @g, label %a ] }",
+        "1: E3 Syntax @g",
+    ),
+    (
+        "define void @f() { %1 = select [2 x i1] %c, i8 1, i8 2 unreachable }",
+        "1: E3 Syntax [",
+    ),
+    (
+        "define void @f() { br [2 x i1] %c, label %a, label %b }",
+        "1: E3 Syntax [",
+    ),
+    (
+        "define void @f() { #dbg_value(i32 0) unreachable }",
+        "1: E4 OutOfProfile #dbg_value",
+    ),
+    (
+        "define void @f() { unreachable 0: unreachable }",
+        "1: E6 Duplicate 0:",
+    ),
+    (
+        "define i32 @f(i32 %\"5\") { ret i32 %5 }",
+        "1: E5 Undefined %5",
+    ),
+    (
+        "define void @g() { ret void } define void @f() { %7 = call void @g() ret void }",
+        "1: E7 BadNumber %7",
+    ),
+    (
+        "define void @g() { ret void } define void @f() { %1 = call void @g() ret void }",
+        "1: E8 BadType @g",
+    ),
+    (
+        "define void @f() { store i8 1, ptr @g ret void }",
+        "1: E5 Undefined @g",
+    ),
+    (
+        "define i8 @f() { %x = add i8 %x, 1 ret i8 %x }",
+        "1: E5 Undefined %x",
+    ),
+    (
+        "@a = global i8 0 define void @a() { ret void }",
+        "1: E6 Duplicate @a",
+    ),
+    (
+        "define void @f(i8 %x, i8 %x) { ret void }",
+        "1: E6 Duplicate %x",
+    ),
+    (
+        "define void @f() { a: br label %b a: ret void b: ret void }",
+        "1: E6 Duplicate a:",
+    ),
+    (
+        "define void @f() { switch i8 0, label %1 [ i8 1, label %1 i8 257, label %1 ] ret void }",
+        "1: E6 Duplicate 257",
+    ),
+    (
+        "define void @f() { switch i8 0, label %1 [ i8 0, label %1 i8 false, label %1 ] ret void }",
+        "1: E6 Duplicate false",
+    ),
+    (
+        "define void @f() { %0 = alloca i8 ret void }",
+        "1: E6 Duplicate %0",
+    ),
+    (
+        "define void @f() { %2 = alloca i8 ret void }",
+        "1: E7 BadNumber %2",
+    ),
+    (
+        "define i8 @f(i16 %x) { %y = add i8 %x, 1 ret i8 %y }",
+        "1: E8 BadType %x",
+    ),
+    (
+        "define i8 @f() { %a = alloca i8 ret i8 %a }",
+        "1: E8 BadType %a",
+    ),
+    (
+        "define i8 @f(i8 %x) { %y = load i8, ptr %x ret i8 %y }",
+        "1: E8 BadType %x",
+    ),
+    (
+        "define void @f() { %x = zext i8 1 to i8 ret void }",
+        "1: E8 BadType i8",
+    ),
+    (
+        "define void @f() { %x = select i1 true, i8 1, i16 2 ret void }",
+        "1: E8 BadType i16",
+    ),
+    (
+        "define void @f() { switch i8 0, label %1 [ i16 1, label %1 ] ret void }",
+        "1: E8 BadType i16",
+    ),
+    ("define i8 @f() { ret i16 0 }", "1: E8 BadType ret"),
+    (
+        "define i8 @f() { %x = call i8 @f(i8 1) ret i8 %x }",
+        "1: E8 BadType @f",
+    ),
+    (
+        "define void @f(i8 %x) { call void @f(i16 1) ret void }",
+        "1: E8 BadType 1",
+    ),
+    (
+        "define void @f(i8 %x) { %a = alloca i8 call void @f(ptr %a) ret void }",
+        "1: E9 Escapes %a",
+    ),
+    (
+        "define i8 @f() { %x = add i8 1, 2 br label %b b: ret i8 %x }",
+        "1: E10 CrossBlock %x (demote registers first)",
+    ),
+    (
+        "define void @f() { br label %1 %a = alloca i8 ret void }",
+        "1: E12 LateAlloca alloca",
+    ),
+    ("define i8 @f() { ret i8 256 }", "1: E14 ConstantRange 256"),
+    (
+        "define i8 @f() { ret i8 -129 }",
+        "1: E14 ConstantRange -129",
+    ),
+    (
+        "define i8 @f() { %x = phi i8 [ 1, %x ] ret i8 %x }",
+        "1: E16 Phi phi (demote registers first)",
+    ),
+];
+
 /// Words that are out of profile wherever they stand.
 const OUT_OF_PROFILE: &[&str] = &[
     "ptr",
@@ -1532,6 +1708,7 @@ fn each_text_is_refused_at_its_place(rt: HostRuntime) -> Result<(), Fail> {
         OTHER_RULES,
         ORDER,
         EXCERPTS,
+        EXAMPLES,
     ];
     for table in tables {
         for (text, said) in table {
