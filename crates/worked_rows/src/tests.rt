@@ -1,10 +1,9 @@
 //! The rows of `print`, run with ample memory.
 
-use mc_host::{FirmSink, FirmSource, MemHost, MemSink};
-use std::alloc::{AllocError, Global};
+use crate::runs::{host_of, run};
+use std::alloc::Global;
 use std::process::Abort;
 use std::test::Fail;
-use top_call::mcpre;
 
 // A text that is accepted, and its canonical text.
 const ACCEPTED: &[u8] =
@@ -12,38 +11,6 @@ const ACCEPTED: &[u8] =
 
 const CANONICAL: &[u8] =
     b"define i32 @main() {\n0:\n  %1 = alloca i32\n  store i32 40, ptr %1\n  %2 = load i32, ptr %1\n  %3 = add i32 %2, 2\n  ret i32 %3\n}\n";
-
-// Texts of one's own.
-fn owned(alloc: Global, texts: &[&str]) -> Result<Vec<String>, AllocError> {
-    let mut all = Vec::new(alloc);
-    for text in texts {
-        all.push(String::from_str(alloc, text)?)?;
-    }
-    Ok(all)
-}
-
-// A host that has the file a.ll alone, whose calls with these numbers fail.
-fn host_of(alloc: Global, source: &[u8], failing: &[u64]) -> Result<MemHost, AllocError> {
-    let content = Vec::from_slice(alloc, source)?;
-    let mut files = Vec::new(alloc);
-    files.push((String::from_str(alloc, "a.ll")?, content))?;
-    Ok(MemHost::new(files, failing.to_vec(alloc)?))
-}
-
-// Runs the words over the host, and gives the status and what `err` holds, which has room for `room` bytes.
-fn run(
-    alloc: Global,
-    words: &[&str],
-    host: &mut MemHost,
-    room: usize,
-) -> Result<(u8, MemSink), Fail> {
-    let words = owned(alloc, words)?;
-    let mut input = FirmSource::new(Vec::new(alloc));
-    let mut out = FirmSink::new(alloc);
-    let mut err = MemSink::new(alloc, room, Vec::new(alloc))?;
-    let status = mcpre(alloc, &words, host, &mut input, &mut out, &mut err);
-    Ok((status, err))
-}
 
 // What a row gives: the status, the line, and the bytes of o.ll, if any.
 #[derive(Drop)]
@@ -100,39 +67,6 @@ fn a_file_may_be_printed_over_itself(rt: HostRuntime) -> Result<(), Fail> {
     assert_eq!(rt; err.written().len(), 0);
     assert_eq!(rt; host.file("a.ll").unwrap_or(&[]), CANONICAL);
     Ok(())
-}
-
-#[test]
-fn another_form_is_refused(rt: HostRuntime) -> Result<(), Fail> {
-    expect_row(
-        &rt,
-        rt.alloc(),
-        &["print", "a.ll", "o.ll"],
-        b"define void @f(){unreachable}",
-        &[],
-        Answer {
-            status: 1,
-            line: b"mcpre: a.ll: E0 NotYet\n",
-            written: b"",
-        },
-    )
-}
-
-#[test]
-fn a_file_that_is_too_long_is_refused(rt: HostRuntime) -> Result<(), Fail> {
-    let source = vec![in rt.alloc(); b'a'; 67_108_865]?;
-    expect_row(
-        &rt,
-        rt.alloc(),
-        &["print", "a.ll", "o.ll"],
-        &source,
-        &[],
-        Answer {
-            status: 1,
-            line: b"mcpre: a.ll: E1 TooLong\n",
-            written: b"",
-        },
-    )
 }
 
 // Words that fit no row change nothing.
