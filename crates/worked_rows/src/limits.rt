@@ -89,3 +89,26 @@ fn the_longest_text(rt: HostRuntime) -> Result<(), Fail> {
     assert!(rt; printed.written.is_none());
     Ok(())
 }
+
+// The lines `define void @fK(){unreachable}`, where K goes up from 0000000 by seven digits.
+fn functions(alloc: Global, count: u32) -> Result<Vec<u8>, AllocError> {
+    let mut text = Vec::new(alloc);
+    for number in 0..count {
+        let line = format!(in alloc; "define void @f{number:07}(){{unreachable}}\n")?;
+        text.extend_from_slice(line.as_bytes())?;
+    }
+    Ok(text)
+}
+
+#[test]
+fn a_text_that_grows(rt: HostRuntime) -> Result<(), Fail> {
+    let printed = print(rt.alloc(), &functions(rt.alloc(), 1_458_888)?)?;
+    assert_eq!(rt; printed.line.as_str(), "");
+    let written = printed.written.unwrap_or(String::new(rt.alloc()));
+    assert_eq!(rt; written.len(), 67_108_847);
+    drop(written);
+    let printed = print(rt.alloc(), &functions(rt.alloc(), 1_500_000)?)?;
+    assert_eq!(rt; printed.line.as_str(), "mcpre: a.ll: E17 Grown\n");
+    assert_eq!(rt; printed.status, 1);
+    Ok(())
+}
