@@ -1,0 +1,2 @@
+//! What is expected at a stop, by the phrases that are tried there.
+#![tactic(auto)]
