@@ -1,1 +1,4 @@
 mod Places
+mod Probes
+mod Stopped
+mod Taken

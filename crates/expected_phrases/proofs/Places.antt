@@ -29,7 +29,7 @@ or_other false b e h = e
 
 -- ---- stops
 
-row_behind : {T A : Type 0} (next : List T → Bool) (Item : List T → A → List T → Type 0) → ((ts : List T) (x : A) (rest : List T) → Item ts x rest → length rest ≤ length ts)
+pub row_behind : {T A : Type 0} (next : List T → Bool) (Item : List T → A → List T → Type 0) → ((ts : List T) (x : A) (rest : List T) → Item ts x rest → length rest ≤ length ts)
     → (ts : List T) (xs : List A) (rest : List T) → Row next Item ts xs rest → length rest ≤ length ts
 row_behind next Item each ts [] rest r = let e = ap length r in omega arith
 row_behind next Item each ts (x ∷ xs) rest r = let a = each ts x r.0 r.2 in let b = row_behind next Item each r.0 xs rest r.3 in omega arith
@@ -74,14 +74,14 @@ is_full (repeated g) = is_full g
 is_full (gives f g) = is_full g
 is_full (provided look g) = not (is_empty g) && is_full g
 
-not_true : (b : Bool) → not b ≡ true → b ≡ false
+pub not_true : (b : Bool) → not b ≡ true → b ≡ false
 not_true true e = absurd cc
 not_true false e = refl
 
-and_first : (a b : Bool) → a && b ≡ true → a ≡ true
+pub and_first : (a b : Bool) → a && b ≡ true → a ≡ true
 and_first a b e = (and_both a b e).0
 
-and_second : (a b : Bool) → a && b ≡ true → b ≡ true
+pub and_second : (a b : Bool) → a && b ≡ true → b ≡ true
 and_second a b e = (and_both a b e).1
 
 -- a phrase that may be empty, and isn't begun, doesn't stop
@@ -158,11 +158,11 @@ tries_behind (gives f g) ts stop t s = tries_behind g ts stop t s
 tries_behind (provided look g) ts stop t (inl s) = tries_behind g ts stop t s.1
 tries_behind (provided look g) ts stop t (inr s) = let e = ap length s.1 in omega arith
 
-or_left : (a b : Bool) → a ≡ true → a || b ≡ true
+pub or_left : (a b : Bool) → a ≡ true → a || b ≡ true
 or_left true b e = refl
 or_left false b e = absurd cc
 
-or_right : (a b : Bool) → b ≡ true → a || b ≡ true
+pub or_right : (a b : Bool) → b ≡ true → a || b ≡ true
 or_right true b e = refl
 or_right false b e = e
 
@@ -221,3 +221,12 @@ takes_none {T} {A} g = go (read g []) (said g [])
     go : (r : Reading T A) → Says g [] r → TakesAll g []
     go (Ok x) s = let l = takes g [] x.0 x.1 s in inl (x.0, subst (λ (l : List _). Spells g [] x.0 l) (none_left x.1 (omega arith)) s)
     go (Err stop) s = let l = stops_behind g [] stop s in inr (subst (λ (l : List _). Stops g [] l) (none_left stop (omega arith)) s)
+
+-- nothing begins at the end
+pub nothing_next : {T A : Type 0} (g : Grammar T A) → is_full g ≡ true → is_next g [] ≡ false
+nothing_next {T} {A} g full = go (by_cases (is_next g [])) (takes_none g)
+  where
+    go : (is_next g [] ≡ true) ⊎ (is_next g [] ≡ false) → TakesAll g [] → is_next g [] ≡ false
+    go (inr e) s = e
+    go (inl e) (inl s) = let l = progress g [] s.0 [] e s.1 in absurd (omega arith)
+    go (inl e) (inr s) = let l = advances g [] [] full e s in absurd (omega arith)
