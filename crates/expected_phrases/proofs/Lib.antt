@@ -2,3 +2,4 @@ mod Places
 mod Probes
 mod Stopped
 mod Taken
+mod Behind

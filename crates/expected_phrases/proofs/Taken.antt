@@ -23,7 +23,7 @@ module _ {T : Type 0} (stop : List T) (p : T) where
   take_pair {A} {B} g h us (inl s) = go (takes_none h)
     where
       go : TakesAll h [] → TakesAll (pair g h) us
-      go (inl t) = inl ((s.0, t.0), [], s.1, t.1)
+      go (inl t) = inl ((s.0, t.0), ([], s.1, t.1))
       go (inr t) = inr (inr (s.0, [], s.1, t))
 
   taken_pair : {A B : Type 0} (g : Grammar T A) (h : Grammar T B) → SpellsOrTries stop p g → TriesTakes g → TriesTakes h → TriesTakes (pair g h)
@@ -31,7 +31,7 @@ module _ {T : Type 0} (stop : List T) (p : T) where
   taken_pair g h front one two ts (inr s) = go (two s.1 s.3)
     where
       last : (us ms : List T) → Spells g us s.0 ms → TakesAll h ms → TakesAll (pair g h) us
-      last us ms i (inl t) = inl ((s.0, t.0), ms, i, t.1)
+      last us ms i (inl t) = inl ((s.0, t.0), (ms, i, t.1))
       last us ms i (inr t) = inr (inr (s.0, ms, i, t))
 
       both : (ms : List T) → TakesAll h ms → OrTried stop p ts (λ us. Spells g us s.0 ms) (Tries g ts stop p) → Taken (pair g h) ts
@@ -74,7 +74,7 @@ module _ {T : Type 0} (stop : List T) (p : T) where
   taken_choice g h full steady one two ts (inr (inr s)) = taken_over (choice g h) full ts s.1 (or_left (is_next g (p ∷ [])) (is_next h (p ∷ [])) (steady.at_probe ∙ s.2))
 
   take_some : {A : Type 0} (g : Grammar T A) (us : List T) → is_next g us ≡ true → TakesAll g us → TakesAll (optional g) us
-  take_some g us n (inl s) = inl (Some s.0, n, s.1)
+  take_some g us n (inl s) = inl (Some s.0, (n, s.1))
   take_some g us n (inr s) = inr (n, s)
 
   taken_optional : {A : Type 0} (g : Grammar T A) → is_full g ≡ true → IsSteadyNext stop p g → TriesTakes g → TriesTakes (optional g)
@@ -83,11 +83,11 @@ module _ {T : Type 0} (stop : List T) (p : T) where
 
   -- one item, at which the tokens end
   take_item : {A : Type 0} (g : Grammar T A) → is_full g ≡ true → (us : List T) → is_next g us ≡ true → TakesAll g us → TakesAll (repeated g) us
-  take_item g full us n (inl s) = inl (s.0 ∷ [], ([], n, s.1, refl), nothing_next g full)
+  take_item g full us n (inl s) = inl (s.0 ∷ [], (([], n, s.1, refl), nothing_next g full))
   take_item g full us n (inr s) = inr ([], us, refl, n, s)
 
   take_more : {A : Type 0} (g : Grammar T A) (us ms : List T) (x : A) → is_next g us ≡ true → Spells g us x ms → TakesAll (repeated g) ms → TakesAll (repeated g) us
-  take_more g us ms x n i (inl s) = inl (x ∷ s.0, (ms, n, i, s.1.0), s.1.1)
+  take_more g us ms x n i (inl s) = inl (x ∷ s.0, ((ms, n, i, s.1.0), s.1.1))
   take_more g us ms x n i (inr s) = inr (x ∷ s.0, s.1, (ms, n, i, s.2), s.3, s.4)
 
   taken_row : {A : Type 0} (g : Grammar T A) → is_full g ≡ true → IsSteadyNext stop p g → SpellsOrTries stop p g → TriesTakes g
@@ -114,11 +114,11 @@ module _ {T : Type 0} (stop : List T) (p : T) where
       taken_row g full steady front one ts xs mid r (taken_over (repeated g) full mid s.1 (steady.at_probe ∙ s.2))
 
   take_gives : {A B : Type 0} (f : A → B) (g : Grammar T A) (us : List T) → TakesAll g us → TakesAll (gives f g) us
-  take_gives f g us (inl s) = inl (f s.0, s.0, refl, s.1)
+  take_gives f g us (inl s) = inl (f s.0, (s.0, refl, s.1))
   take_gives f g us (inr s) = inr s
 
   take_looked : {A : Type 0} (look : List T → Bool) (g : Grammar T A) (us : List T) → look us ≡ true → TakesAll g us → TakesAll (provided look g) us
-  take_looked look g us n (inl s) = inl (s.0, n, s.1)
+  take_looked look g us n (inl s) = inl (s.0, (n, s.1))
   take_looked look g us n (inr s) = inr (inl (n, s))
 
   taken_provided : {A : Type 0} (look : List T → Bool) (g : Grammar T A) → IsSteadyLook stop p look g → TriesTakes g → TriesTakes (provided look g)
@@ -133,7 +133,7 @@ module _ {T : Type 0} (stop : List T) (p : T) where
   taken_provided look g steady one ts (inr s) = absurd (apart (begins g p) s.2 steady.begins_not)
 
   pub tries_takes : {A : Type 0} (g : Grammar T A) → is_full g ≡ true → Steady stop p g → TriesTakes g
-  tries_takes (token test) full steady = λ ts s. (p ∷ [], ([], s.2, refl), inl (p, s.0, refl))
+  tries_takes (token test) full steady = λ ts s. (p ∷ [], ([], s.2, refl), inl (p, (s.0, refl)))
   tries_takes (pair g h) full steady =
       let f = and_first (is_full g) (is_full h) full in
       taken_pair g h (spells_or_tries stop p g f steady.0) (tries_takes g f steady.0) (tries_takes h (and_second (is_full g) (is_full h) full) steady.1)
