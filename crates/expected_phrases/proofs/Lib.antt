@@ -3,3 +3,5 @@ mod Probes
 mod Stopped
 mod Taken
 mod Behind
+mod Phrases
+mod Whole

@@ -1,0 +1,46 @@
+-- What is expected at a stop, by what is tried there. A phrase that the reading looks for at a stop begins with a
+-- single token, so it is tried there where such a token is tried.
+use Rattle.std.specs.Prelude.{◌≡◌, false, List, ◌++◌, codes}
+use Rattle.ir_lexer.specs.Lexeme.{Lexeme}
+use Rattle.ir_lexer.specs.declared.token.TokenKind.TheVariants as kinds
+use Rattle.grammar.specs.Grammar.{StopsAt}
+use Rattle.ir_parser.specs.Tokens.{is_spelled}
+use Rattle.ir_parser.specs.Module.{module_text}
+use Rattle.ir_parser.specs.Profile.{probe, GoesOn, IsTypeExpected, IsDeclareExpected, IsValueExpected, IsPointerExpected}
+use Rattle.expected_phrases.specs.Tried.{Tries}
+
+-- A whole text comes to the tokens of stop behind those of front, and tries there a single token that t passes for.
+abbrev pub IsTried : List Lexeme → List Lexeme → Lexeme → Type 0
+IsTried front stop t = Tries module_text (front ++ stop) stop t
+
+-- `i32` passes for a type alone.
+abbrev pub IsTypeTried : List Lexeme → List Lexeme → Type 0
+IsTypeTried front stop = IsTried front stop (probe kinds.Word (codes "i32"))
+
+abbrev pub IsDeclareTried : List Lexeme → List Lexeme → Type 0
+IsDeclareTried front stop = IsTried front stop (probe kinds.Word (codes "declare"))
+
+-- A value can be `undef` or a local. The first value of a global can be `undef`, and no local.
+abbrev pub IsValueTried : List Lexeme → List Lexeme → Type 0
+IsValueTried front stop = IsTried front stop (probe kinds.Word (codes "undef")) × IsTried front stop (probe kinds.Local (codes "%x"))
+
+-- Behind the `ptr` of an argument a local and an attribute are tried. So they are before a value, where `undef` is
+-- tried too, and behind the type of a parameter, where a parenthesis is.
+pub record IsPointerTried (front stop : List Lexeme) : Type 0 where
+  pub local : IsTried front stop (probe kinds.Local (codes "%x"))
+  pub attribute : IsTried front stop (probe kinds.Word (codes "noundef"))
+  pub no_value : IsTried front stop (probe kinds.Word (codes "undef")) → ⊥
+  pub no_end : IsTried front stop (probe kinds.Punct (codes ")")) → ⊥
+
+-- each holds where the other does
+abbrev pub Same : Type 0 → Type 0 → Type 0
+Same P Q = (P → Q) × (Q → P)
+
+-- At this stop a token goes on exactly where it is tried, but for those that a phi looks at. So what is expected at
+-- the stop is what is tried there.
+pub record IsExpectedAsTried (front stop : List Lexeme) : Type 0 where
+  pub tokens : (t : Lexeme) → is_spelled kinds.Punct (codes ",") t ≡ false → is_spelled kinds.Punct (codes "[") t ≡ false → Same (GoesOn front t) (IsTried front stop t)
+  pub types : Same (IsTypeExpected front) (IsTypeTried front stop)
+  pub declares : Same (IsDeclareExpected front) (IsDeclareTried front stop)
+  pub values : Same (IsValueExpected front) (IsValueTried front stop)
+  pub pointers : Same (IsPointerExpected front) (IsPointerTried front stop)
