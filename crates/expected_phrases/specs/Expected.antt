@@ -1,12 +1,14 @@
 -- What is expected at a stop, by what is tried there. A phrase that the reading looks for at a stop begins with a
 -- single token, so it is tried there where such a token is tried.
-use Rattle.std.specs.Prelude.{◌≡◌, false, List, ◌++◌, codes}
+use Rattle.std.specs.Prelude.{◌≡◌, ℕ, false, ◌⊎◌, List, [], ◌∷◌, ◌++◌, drop, IsTrue, codes}
+use Rattle.std.specs.List.{list_all}
+use Rattle.ir_types.specs.Bytes.{is_digit}
 use Rattle.ir_lexer.specs.Lexeme.{Lexeme}
+use Rattle.ir_lexer.specs.declared.token.TokenKind.{TokenKind}
 use Rattle.ir_lexer.specs.declared.token.TokenKind.TheVariants as kinds
-use Rattle.grammar.specs.Grammar.{StopsAt}
 use Rattle.ir_parser.specs.Tokens.{is_spelled}
 use Rattle.ir_parser.specs.Module.{module_text}
-use Rattle.ir_parser.specs.Profile.{probe, GoesOn, IsTypeExpected, IsDeclareExpected, IsValueExpected, IsPointerExpected}
+use Rattle.ir_parser.specs.Profile.{probe, GoesOn, IsTypeExpected, IsDeclareExpected, IsValueExpected, IsPointerExpected, is_in, is_closed_word, note_words, IsOutOfProfile}
 use Rattle.expected_phrases.specs.Tried.{Tries}
 
 -- A whole text comes to the tokens of stop behind those of front, and tries there a single token that t passes for.
@@ -32,6 +34,24 @@ pub record IsPointerTried (front stop : List Lexeme) : Type 0 where
   pub no_value : IsTried front stop (probe kinds.Word (codes "undef")) → ⊥
   pub no_end : IsTried front stop (probe kinds.Punct (codes ")")) → ⊥
 
+-- What LLVM's language has at the stop and this grammar doesn't, by what is tried there: closed words and notes; `<`
+-- and `*`, and a bracket or brace in the place of a type; a local in the place of `declare`; a global that has a
+-- number, or stands in the place of a value or of the local behind a `ptr`.
+abbrev pub IsOutAt : TokenKind → List Lexeme → List Lexeme → List ℕ → Type 0
+IsOutAt kinds.Word front stop text = IsTrue (is_closed_word text)
+IsOutAt kinds.Hash front stop text = IsTrue (is_in note_words text)
+IsOutAt kinds.Punct front stop text =
+    IsTrue (is_in (codes "<" ∷ codes "*" ∷ []) text)
+    ⊎ (IsTrue (is_in (codes "[" ∷ codes "{" ∷ []) text) × IsTypeTried front stop)
+IsOutAt kinds.Local front stop text = IsDeclareTried front stop
+IsOutAt kinds.Global front stop text = IsTrue (list_all is_digit (drop 1 text)) ⊎ (IsValueTried front stop ⊎ IsPointerTried front stop)
+IsOutAt _ front stop text = ⊥
+
+-- The stop is out of the profile.
+abbrev pub IsOut : List Lexeme → List Lexeme → Type 0
+IsOut front [] = ⊥
+IsOut front (t ∷ ts) = IsOutAt t.kind front (t ∷ ts) t.text
+
 -- each holds where the other does
 abbrev pub Same : Type 0 → Type 0 → Type 0
 Same P Q = (P → Q) × (Q → P)
@@ -44,3 +64,4 @@ pub record IsExpectedAsTried (front stop : List Lexeme) : Type 0 where
   pub declares : Same (IsDeclareExpected front) (IsDeclareTried front stop)
   pub values : Same (IsValueExpected front) (IsValueTried front stop)
   pub pointers : Same (IsPointerExpected front) (IsPointerTried front stop)
+  pub profile : Same (IsOutOfProfile front stop) (IsOut front stop)
