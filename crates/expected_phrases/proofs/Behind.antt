@@ -1,13 +1,13 @@
 -- A token is tried at a stop exactly where a probe that passes for it would go on.
-use Rattle.std.proofs.Common.{◌≡◌, ◌++◌, Bool, true, false, not, ◌&&◌, ◌||◌, List, [], ◌∷◌, ◌⊎◌, inl, inr, refl, sym, ap, subst, ◌∙◌}
+use Rattle.std.proofs.Common.{◌≡◌, ◌++◌, Bool, true, false, not, ◌&&◌, ◌||◌, List, [], ◌∷◌, inl, inr, refl, sym, ap, subst, ◌∙◌}
 use Rattle.std.proofs.lemmas.List.{append_cancel_right}
-use Rattle.grammar.specs.Grammar.{Grammar, token, pair, choice, optional, repeated, gives, provided, is_empty, is_next, Spells, Stops, SpellsAll, StopsAt}
+use Rattle.grammar.specs.Grammar.{Grammar, token, pair, choice, optional, repeated, gives, provided, is_empty, is_next, Spells, Stops, StopsAt}
 use Rattle.grammar.proofs.ExactlyOne.{determined}
 use Rattle.expected_phrases.specs.Tried.{begins, Tries}
-use Rattle.expected_phrases.proofs.Places.{and_first, and_second, not_true, is_full, TakesAll}
+use Rattle.expected_phrases.proofs.Places.{and_first, and_second, is_full, TakesAll}
 use Rattle.expected_phrases.proofs.Probes.{Swapped, Within, IsSteadyNext, Steady, OrTried, spells_or_tries}
 use Rattle.expected_phrases.proofs.Stopped.{stops_or_tries}
-use Rattle.expected_phrases.proofs.Taken.{Taken, tries_takes}
+use Rattle.expected_phrases.proofs.Taken.{tries_takes}
 
 module _ {T A : Type 0} (g : Grammar T A) (front stop : List T) (p : T) (full : is_full g ≡ true) (steady : Steady stop p g) where
   same_front : (us : List T) → Swapped stop p (front ++ stop) us → us ≡ front ++ p ∷ []
@@ -70,7 +70,7 @@ plain_led : {T A : Type 0} (g : Grammar T A) → is_plain g ≡ true → is_led 
 plain_led (token test) e = refl
 plain_led (pair g h) e =
     both_true (is_led g) (not (is_empty g) || is_led h) (plain_led g (and_first (is_plain g) (is_plain h) e))
-        (later (not (is_empty g)) (is_led h) (plain_led h (and_second (is_plain g) (is_plain h) e)))
+    (later (not (is_empty g)) (is_led h) (plain_led h (and_second (is_plain g) (is_plain h) e)))
 plain_led (choice g h) e = both_true (is_led g) (is_led h) (plain_led g (and_first (is_plain g) (is_plain h) e)) (plain_led h (and_second (is_plain g) (is_plain h) e))
 plain_led (optional g) e = plain_led g e
 plain_led (repeated g) e = plain_led g e

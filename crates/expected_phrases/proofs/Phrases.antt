@@ -1,17 +1,17 @@
 -- Whole texts look at the token behind the next one only where a comma may begin a further pair of a phi.
-use Rattle.std.proofs.Common.{◌≡◌, ◌<◌, ◌≤◌, ◌++◌, Bool, true, false, ◌&&◌, ◌||◌, List, [], ◌∷◌, length, drop, ◌⊎◌, inl, inr, refl, sym, ap, subst, ◌∙◌, arith}
+use Rattle.std.proofs.Common.{◌≡◌, Bool, true, false, ◌||◌, List, [], ◌∷◌, length, drop, inl, inr, refl, sym, ap, subst, ◌∙◌, arith}
 use Rattle.std.specs.Prelude.{codes}
-use Rattle.grammar.specs.Grammar.{token, pair, choice, optional, repeated, gives, provided, is_empty, heads, is_next, Spells, Stops}
+use Rattle.grammar.specs.Grammar.{heads, is_next}
 use Rattle.grammar.proofs.Determined.{progress}
 use Rattle.ir_lexer.specs.Lexeme.{Lexeme}
 use Rattle.ir_lexer.specs.declared.token.TokenKind.TheVariants as kinds
-use Rattle.ir_parser.specs.Tokens.{G, is_spelled, comma, ◌▸◌}
+use Rattle.ir_parser.specs.Tokens.{is_spelled, comma, ◌▸◌}
 use Rattle.ir_parser.specs.Values.{int_type, ret, cvalue, gvalue, value, addr, target, detail, attach, attached, extra, extras}
 use Rattle.ir_parser.specs.Calls.{arg, next_arg, some_args, args, call_word, call_words, call, incoming, brackets_next, next_incoming, incomings, phi}
 use Rattle.ir_parser.specs.Instrs.{binop, predicate, castop, flags, alloca, load, binary, compare, convert, select, computing, giving, store, result_name, giving_instr, storing_instr, bare_instr, instr, instrs}
 use Rattle.ir_parser.specs.Terms.{returned, branched, switch_case, cases, switched, bare_term, term, label, block, blocks}
 use Rattle.ir_parser.specs.Module.{par, next_par, some_pars, pars, signature, declare, define, variable, part, parts_of, module_text}
-use Rattle.expected_phrases.specs.Tried.{begins, Tries}
+use Rattle.expected_phrases.specs.Tried.{begins}
 use Rattle.expected_phrases.proofs.Places.{apart, and_both, or_left, is_full, advances, tried_first}
 use Rattle.expected_phrases.proofs.Probes.{Within, Reaches, IsSteadyNext, IsSteadyLook, Steady}
 use Rattle.expected_phrases.proofs.Behind.{led_next, plain_steady}
@@ -109,17 +109,26 @@ module _ (stop : List Lexeme) (p : Lexeme) (no_comma : is_comma p ≡ false) (no
 
   giving_steady : Steady stop p giving
   unfolding giving alloca load computing binary compare convert select call call_word call_words args some_args next_arg arg binop predicate castop flags ret int_type value gvalue cvalue addr extras extra detail
-  giving_steady =
-      (led_next stop p alloca refl, plain_steady stop p alloca refl,
-      (led_next stop p load refl, plain_steady stop p load refl,
-      (led_next stop p computing refl, plain_steady stop p computing refl,
-      (led_next stop p call refl, plain_steady stop p call refl, phi_steady))))
+  giving_steady = (
+    led_next stop p alloca refl,
+    plain_steady stop p alloca refl,
+    (
+      led_next stop p load refl,
+      plain_steady stop p load refl,
+      (
+        led_next stop p computing refl,
+        plain_steady stop p computing refl,
+        (led_next stop p call refl, plain_steady stop p call refl, phi_steady),
+      ),
+    ),
+  )
 
   instrs_steady : Steady stop p instrs
   unfolding instrs instr bare_instr giving_instr storing_instr store result_name giving alloca load computing binary compare convert select call call_word phi binop castop int_type value gvalue cvalue addr attached attach detail
-  instrs_steady =
-      (led_next stop p instr refl,
-      ((led_next stop p giving_instr refl, (plain_steady stop p result_name refl, giving_steady), plain_steady stop p storing_instr refl), plain_steady stop p attached refl))
+  instrs_steady = (
+    led_next stop p instr refl,
+    ((led_next stop p giving_instr refl, (plain_steady stop p result_name refl, giving_steady), plain_steady stop p storing_instr refl), plain_steady stop p attached refl),
+  )
 
   blocks_steady : Steady stop p blocks
   unfolding blocks block label instrs instr bare_instr giving_instr storing_instr store result_name giving alloca load computing binary compare convert select call call_word phi binop castop term bare_term returned branched switched cases switch_case target int_type value gvalue cvalue attached attach detail
@@ -133,10 +142,14 @@ module _ (stop : List Lexeme) (p : Lexeme) (no_comma : is_comma p ≡ false) (no
 
   pub module_steady : Steady stop p module_text
   unfolding module_text parts_of part declare define variable signature ret pars some_pars next_par par int_type gvalue cvalue attached attach extras extra detail
-  module_steady =
-      (led_next stop p part refl,
-      (led_next stop p _ refl, plain_steady stop p declare refl,
-      (led_next stop p _ refl, define_steady, plain_steady stop p variable refl)))
+  module_steady = (
+    led_next stop p part refl,
+    (
+      led_next stop p _ refl,
+      plain_steady stop p declare refl,
+      (led_next stop p _ refl, define_steady, plain_steady stop p variable refl),
+    ),
+  )
 
 pub module_full : is_full module_text ≡ true
 unfolding module_text parts_of part declare define variable signature ret pars some_pars next_par par blocks block label instrs instr bare_instr giving_instr storing_instr store result_name giving alloca load computing binary compare convert select call call_word call_words args some_args next_arg arg phi incomings incoming next_incoming binop predicate castop flags term bare_term returned branched switched cases switch_case target int_type value gvalue cvalue addr attached attach extras extra detail

@@ -1,9 +1,9 @@
 -- Reading on with a probe in the place of the tokens at the stop.
-use Rattle.std.proofs.Common.{◌≡◌, ℕ, ◌<◌, ◌≤◌, ◌+◌, ◌++◌, Bool, true, false, not, ◌&&◌, ◌||◌, List, [], ◌∷◌, Option, length, Some, None, ◌⊎◌, inl, inr, refl, sym, ap, subst, ◌∙◌, arith}
-use Rattle.grammar.specs.Grammar.{Grammar, token, pair, choice, optional, repeated, gives, provided, is_empty, heads, is_next, Row, Spells, Stops}
-use Rattle.grammar.proofs.Determined.{takes, not_begun, by_cases, progress}
+use Rattle.std.proofs.Common.{◌≡◌, ◌<◌, ◌≤◌, ◌++◌, Bool, true, false, not, ◌&&◌, ◌||◌, List, [], ◌∷◌, length, Some, None, ◌⊎◌, inl, inr, refl, sym, ap, subst, ◌∙◌, arith}
+use Rattle.grammar.specs.Grammar.{Grammar, token, pair, choice, optional, repeated, gives, provided, is_empty, is_next, Row, Spells, Stops}
+use Rattle.grammar.proofs.Determined.{not_begun, by_cases, progress}
 use Rattle.expected_phrases.specs.Tried.{begins, Tries}
-use Rattle.expected_phrases.proofs.Places.{apart, or_false, and_false, and_both, or_other, and_first, and_second, not_true, is_full, stops_behind, waits, advances, tries_behind, tried_first, TakesAll, takes_one, takes_none, nothing_next}
+use Rattle.expected_phrases.proofs.Places.{apart, and_first, and_second, not_true, is_full}
 
 -- tokens up to the stop, and the same with the probe in the place of the stop
 abbrev pub Swapped : {T : Type 0} → List T → T → List T → List T → Type 0
@@ -203,4 +203,4 @@ module _ {T : Type 0} (stop : List T) (p : T) where
   spells_or_tries (gives f g) full steady = spells_gives f g (spells_or_tries g full steady)
   spells_or_tries (provided look g) full steady =
       spells_provided look g (not_true (is_empty g) (and_first (not (is_empty g)) (is_full g) full)) steady.0
-          (spells_or_tries g (and_second (not (is_empty g)) (is_full g) full) steady.1)
+      (spells_or_tries g (and_second (not (is_empty g)) (is_full g) full) steady.1)

@@ -1,10 +1,10 @@
 -- Where a token that the probe passes for is tried at the stop, the probe is taken.
-use Rattle.std.proofs.Common.{◌≡◌, ℕ, ◌<◌, ◌≤◌, ◌+◌, ◌++◌, Bool, true, false, not, ◌&&◌, ◌||◌, List, [], ◌∷◌, Option, length, Some, None, ◌⊎◌, inl, inr, refl, sym, ap, subst, ◌∙◌, arith}
-use Rattle.grammar.specs.Grammar.{Grammar, token, pair, choice, optional, repeated, gives, provided, is_empty, heads, is_next, Row, Spells, Stops}
-use Rattle.grammar.proofs.Determined.{takes, not_begun, by_cases, progress}
+use Rattle.std.proofs.Common.{◌≡◌, Bool, true, false, not, ◌&&◌, List, [], ◌∷◌, length, Some, ◌⊎◌, inl, inr, refl, sym, ap, subst, ◌∙◌, arith}
+use Rattle.grammar.specs.Grammar.{Grammar, token, pair, choice, optional, repeated, gives, provided, is_empty, is_next, Row, Spells}
+use Rattle.grammar.proofs.Determined.{by_cases, progress}
 use Rattle.expected_phrases.specs.Tried.{begins, Tries}
-use Rattle.expected_phrases.proofs.Places.{apart, or_left, and_first, and_second, not_true, is_full, stops_behind, waits, advances, tries_behind, tried_first, TakesAll, takes_one, takes_none, nothing_next}
-use Rattle.expected_phrases.proofs.Probes.{Swapped, Within, IsSteadyNext, IsSteadyLook, Steady, edge, within, behind, neither, OrTried, SpellsOrTries, TriesInRow, row_or_tries, over_or_tries, spells_or_tries}
+use Rattle.expected_phrases.proofs.Places.{apart, or_left, and_first, and_second, is_full, tried_first, TakesAll, takes_one, takes_none, nothing_next}
+use Rattle.expected_phrases.proofs.Probes.{Swapped, Within, IsSteadyNext, IsSteadyLook, Steady, edge, within, behind, OrTried, SpellsOrTries, spells_or_tries}
 
 module _ {T : Type 0} (stop : List T) (p : T) where
   -- the probe is taken

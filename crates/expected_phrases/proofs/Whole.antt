@@ -1,5 +1,5 @@
 -- What is expected at a stop of a whole text is what is tried there.
-use Rattle.std.proofs.Common.{◌≡◌, ℕ, ◌++◌, false, List, [], ◌∷◌, ◌⊎◌, inl, inr, refl}
+use Rattle.std.proofs.Common.{◌≡◌, ℕ, ◌++◌, false, List, [], ◌∷◌, inl, inr, refl}
 use Rattle.std.specs.Prelude.{codes}
 use Rattle.ir_lexer.specs.Lexeme.{Lexeme}
 use Rattle.ir_lexer.specs.declared.token.TokenKind.{TokenKind}

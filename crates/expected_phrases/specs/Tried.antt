@@ -1,6 +1,6 @@
 -- Which single tokens of a grammar are tried at a stop: those that are passed over there, and those that stop there
 -- before they took a token.
-use Rattle.std.specs.Prelude.{◌≡◌, Bool, true, false, ◌&&◌, ◌||◌, List, [], ◌∷◌, ◌⊎◌}
+use Rattle.std.specs.Prelude.{◌≡◌, Bool, true, false, ◌&&◌, ◌||◌, List, ◌⊎◌}
 use Rattle.grammar.specs.Grammar.{Grammar, token, pair, choice, optional, repeated, gives, provided, is_empty, heads, is_next, Row, Spells}
 
 -- A single token that t passes for can stand first in the phrase.
