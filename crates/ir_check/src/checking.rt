@@ -27,6 +27,3 @@ pub fn check<'a>(alloc: Global, raw: &Raw<'a>) -> Result<Module<'a>, CheckError>
     checked_trees();
     Ok(Module::new(globals, functions))
 }
-
-#[cfg(test)]
-mod tests;

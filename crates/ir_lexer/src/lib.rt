@@ -9,6 +9,3 @@ mod token;
 pub use laws::{lexes_back, tokens_in_order};
 pub use lexing::{LexError, end_of, lex};
 pub use token::{Token, TokenKind};
-
-#[cfg(test)]
-mod tests;

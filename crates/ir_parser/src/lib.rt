@@ -7,8 +7,6 @@ mod modules;
 mod parsing;
 mod profile;
 mod terms;
-#[cfg(test)]
-mod tests;
 mod tokens;
 mod values;
 mod words;

@@ -3,8 +3,6 @@
 
 mod laws;
 mod reading;
-#[cfg(test)]
-mod tests;
 
 pub use laws::{one_answer, reads_back};
 pub use reading::{ReadError, Refusal, read};

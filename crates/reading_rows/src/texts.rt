@@ -1,6 +1,8 @@
-use super::*;
+//! Whole texts: read, printed and read back, and refused at their places.
+
 use ir_lexer::lex;
 use ir_printer::print;
+use ir_reader::{ReadError, Refusal, read};
 use ir_types::duplicate::Duplicate;
 use ir_types::rules::{Problem, Rule};
 use ir_types::span::Span;

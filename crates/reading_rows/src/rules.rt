@@ -4,14 +4,12 @@ ghost use Rattle.ir_types.specs.Names.{IsNameText};
 ghost use Rattle.ir_types.specs.Size.{function_items, items};
 ghost use Rattle.ir_types.specs.Written.{IsSpelledFunction, IsSpelledTree};
 
-use super::check;
-use crate::limits::within_limits;
+use ir_check::{CheckError, check, within_limits};
 use ir_types::items::Items;
 use ir_types::name::Spelling;
 use ir_types::rules::Rule;
 use ir_types::span::{At, Span};
 use ir_types::tree::{Raw, RawFunction, RawGlobal, RawValue, Ty};
-use ir_uses::error::CheckError;
 use mc_num::Width;
 use std::alloc::{AllocError, Global};
 use std::test::Fail;

@@ -1,7 +1,7 @@
 //! Texts of each phrase, and texts that stop.
 
-use crate::{ParseError, parse};
 use ir_lexer::{Token, end_of, lex};
+use ir_parser::{ParseError, parse};
 use ir_types::span::Span;
 use std::alloc::Global;
 use std::test::Fail;

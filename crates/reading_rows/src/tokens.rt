@@ -1,5 +1,7 @@
-use super::*;
-use TokenKind::{Bang, Global, Hash, Label, Local, Number, Punct, Word};
+//! The tokens of small texts, and the first byte that starts none.
+
+use ir_lexer::TokenKind::{self, Bang, Global, Hash, Label, Local, Number, Punct, Word};
+use ir_lexer::{LexError, end_of, lex};
 use ir_types::span::Span;
 use std::test::Fail;
 
