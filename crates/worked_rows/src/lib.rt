@@ -10,6 +10,8 @@ mod prefixes;
 #[cfg(test)]
 mod refusals;
 #[cfg(test)]
+mod run_rows;
+#[cfg(test)]
 mod runs;
 #[cfg(test)]
 mod tests;
