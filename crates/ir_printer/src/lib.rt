@@ -6,8 +6,6 @@ mod growing;
 mod instrs;
 mod printing;
 mod spelling;
-#[cfg(test)]
-mod tests;
 mod values;
 mod words;
 

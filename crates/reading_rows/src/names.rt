@@ -1,4 +1,6 @@
-use super::*;
+//! Names and constants as the canonical text spells them.
+
+use ir_printer::{constant_to, name_to};
 use ir_types::name::{Made, Name, Spelling};
 use mc_host::{Failed, MemSink};
 use mc_num::Width;
