@@ -1,6 +1,8 @@
 //! Texts that are read as profiles of small modules, and texts that are refused.
+ghost use Rattle.profile.specs.Counts.{IsAccepted};
 
 use ir_reader::read;
+use ir_types::module::Module;
 use profile::{Profile, ProfileError, count_of_block, print_profile, read_profile};
 use std::alloc::Global;
 use std::process::Abort;
@@ -22,9 +24,8 @@ join:
 }
 ";
 
-/// The same, and a block that isn't reached and goes to where the arms meet.
-const UNREACHED: &[u8] = b"declare i32 @getchar()
-define i32 @main() {
+/// The same before its declaration, and a block that isn't reached and goes to where the arms meet.
+const UNREACHED: &[u8] = b"define i32 @main() {
 entry:
   %g = call i32 @getchar()
   %c = icmp eq i32 %g, 65
@@ -38,6 +39,7 @@ join:
 other:
   br label %join
 }
+declare i32 @getchar()
 ";
 
 /// Two slots to one block.
@@ -229,6 +231,37 @@ const REFUSED: &[(&[u8], &str, ProfileError)] = &[
     ),
 ];
 
+/// Texts that are profiles of modules, with how often blocks of the first function were entered.
+const ENTERED: &[(&[u8], &str, &[(u32, u64)])] = &[
+    (
+        PARALLEL,
+        "mcpre-profile 1\nfunc 0 7\nblock 0 3 4\nblock 1\n",
+        &[(0, 7), (1, 7)],
+    ),
+    (
+        UNREACHED,
+        "mcpre-profile 1\nfunc 0 100\nblock 0 90 10\nblock 1 90\nblock 2 10\nblock 3\nblock 4 0\n",
+        &[(0, 100), (1, 90), (2, 10), (3, 100)],
+    ),
+    (
+        RETURNS,
+        "mcpre-profile 1\nfunc 0 4611686018427387903\nblock 0\n",
+        &[(0, 4_611_686_018_427_387_903)],
+    ),
+];
+
+// How often a block of the first function was entered, by accepted counts; `None` where that function has no blocks.
+fn count_in_first(program: &Module<'_>, profile: &Profile, block: u32) -> Option<u64>
+    requires { IsAccepted program.now profile.now.functions }
+{
+    let function = program.functions().first()?;
+    let counts = profile.functions.as_slice().first()?;
+    if function.blocks.as_slice().is_empty() {
+        return None;
+    }
+    Some(count_of_block(function, counts, block))
+}
+
 // Expects that a text is refused for this reason as the profile of a module.
 fn expect_refusal(
     rt: &impl Abort,
@@ -270,6 +303,19 @@ fn lines_of_no_form(rt: HostRuntime) -> Result<(), Fail> {
 fn counts_that_are_not_the_modules(rt: HostRuntime) -> Result<(), Fail> {
     for (program, text, wanted) in REFUSED {
         expect_refusal(&rt, rt.alloc(), program, text, *wanted)?;
+    }
+    Ok(())
+}
+
+#[test]
+fn how_often_blocks_are_entered(rt: HostRuntime) -> Result<(), Fail> {
+    for (program, text, counts) in ENTERED {
+        assert!(rt; program.len() < 1000 && text.len() < 1000);
+        let program = read(rt.alloc(), program)?;
+        let profile = read_profile(rt.alloc(), text.as_bytes(), &program)?;
+        for (block, count) in *counts {
+            assert_eq!(rt; count_in_first(&program, &profile, *block), Some(*count), "of {text}");
+        }
     }
     Ok(())
 }
