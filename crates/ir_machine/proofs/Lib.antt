@@ -1,0 +1,5 @@
+mod Acting
+mod Cases
+mod Closing
+mod Fitting
+mod Waiting
