@@ -1,5 +1,5 @@
 mod Acting
-mod Cases
 mod Closing
 mod Fitting
+pub mod Taken
 mod Waiting
