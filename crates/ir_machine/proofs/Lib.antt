@@ -1,5 +1,6 @@
 mod Acting
 mod Closing
+mod Example
 mod Fitting
 pub mod Taken
 mod Waiting
