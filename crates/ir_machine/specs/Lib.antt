@@ -1,0 +1,6 @@
+pub mod Code
+pub mod Fits
+pub mod Prof
+pub mod Same
+pub mod Small
+pub mod Step
