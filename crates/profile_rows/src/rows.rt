@@ -3,6 +3,7 @@ ghost use Rattle.profile.specs.Counts.{IsAccepted};
 
 use ir_reader::read;
 use ir_types::module::Module;
+use mc_num::NoMemory;
 use profile::{Profile, ProfileError, count_of_block, print_profile, read_profile};
 use std::alloc::Global;
 use std::process::Abort;
@@ -250,6 +251,13 @@ const ENTERED: &[(&[u8], &str, &[(u32, u64)])] = &[
     ),
 ];
 
+// The text of accepted counts.
+fn printed(alloc: Global, program: &Module<'_>, profile: &Profile) -> Result<Vec<u8>, NoMemory>
+    requires { IsAccepted program.now profile.now.functions }
+{
+    print_profile(alloc, program, profile)
+}
+
 // How often a block of the first function was entered, by accepted counts; `None` where that function has no blocks.
 fn count_in_first(program: &Module<'_>, profile: &Profile, block: u32) -> Option<u64>
     requires { IsAccepted program.now profile.now.functions }
@@ -285,8 +293,8 @@ fn texts_of_accepted_counts_are_read_and_printed_back(rt: HostRuntime) -> Result
         assert!(rt; program.len() < 1000 && text.len() < 1000);
         let program = read(rt.alloc(), program)?;
         let profile = read_profile(rt.alloc(), text.as_bytes(), &program)?;
-        let printed = print_profile(rt.alloc(), &program, &profile)?;
-        assert_eq!(rt; printed.as_slice(), text.as_bytes(), "of {text}");
+        let again = printed(rt.alloc(), &program, &profile)?;
+        assert_eq!(rt; again.as_slice(), text.as_bytes(), "of {text}");
     }
     Ok(())
 }
