@@ -1,4 +1,4 @@
-//! The canonical text of modules and names.
+//! The canonical text of modules, names and constants.
 #![tactic(auto)]
 
 mod blocks;
@@ -13,3 +13,4 @@ mod words;
 
 pub use printing::print;
 pub use spelling::name_to;
+pub use values::constant_to;

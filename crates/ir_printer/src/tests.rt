@@ -1,6 +1,7 @@
 use super::*;
 use ir_types::name::{Made, Name, Spelling};
 use mc_host::{Failed, MemSink};
+use mc_num::Width;
 use std::test::Fail;
 
 fn text(bytes: &[u8]) -> Name<'_> {
@@ -43,5 +44,24 @@ fn fails_where_the_sink_has_no_room(rt: HostRuntime) -> Result<(), Fail> {
     let mut sink = MemSink::new(alloc, 3, Vec::new(alloc))?;
     assert!(rt; name_to(&text(b"a b"), &mut sink) == Err(Failed));
     assert_eq!(rt; sink.written(), b"\"".as_slice());
+    Ok(())
+}
+
+#[test]
+fn spells_constants(rt: HostRuntime) -> Result<(), Fail> {
+    let alloc = rt.alloc();
+    let rows: [(Width, u64, &[u8]); 6] = [
+        (Width::I1, 1, b"true"),
+        (Width::I1, 0, b"false"),
+        (Width::I8, 127, b"127"),
+        (Width::I8, 255, b"-1"),
+        (Width::I64, 0x7fff_ffff_ffff_ffff, b"9223372036854775807"),
+        (Width::I64, 0x8000_0000_0000_0000, b"-9223372036854775808"),
+    ];
+    for (width, value, want) in rows {
+        let mut sink = MemSink::new(alloc, 20, Vec::new(alloc))?;
+        assert!(rt; constant_to(width, value, &mut sink) == Ok(()));
+        assert_eq!(rt; sink.written(), want);
+    }
     Ok(())
 }

@@ -1,5 +1,6 @@
 //! Names, constants and operands.
 ghost use Rattle.std.specs.Prelude.{◌≡◌, ◌++◌, ◌≤◌, ◌<◌, ◌-◌, ◌^◌, pos, negsuc, nat_lt, cond, OnOk};
+ghost use Rattle.mc_host.specs.Streams.{Puts};
 ghost use Rattle.ir_types.specs.TreeOf.{signed, register_name};
 ghost use Rattle.std.specs.Option.{option_copied};
 ghost use Rattle.ir_printer.specs.Text.{local_text, global_text, constant_text, value_text, typed_text, variable_type, variable_text, label_text};
@@ -53,14 +54,24 @@ fn signed(width: Width, value: u64) -> i64
     }
 }
 
+/// Puts a constant of a width as the canonical text spells it: `true` or `false` at one bit, else a decimal number with
+/// its sign. It takes no memory.
+///
+/// `Failed` comes only where the sink's count of faults rose in this call; a first part of the text was then added.
+pub fn constant_to<S: Sink>(width: Width, value: u64, sink: &mut S) -> Result<(), Failed>
+    ensures { Puts (constant_text width value) result (S.state sink.old) (S.state sink.new) }
+{
+    if width == Width::I1 {
+        return sink.put(if value == 1 { b"true" } else { b"false" });
+    }
+    let mut digits = Buffer::new();
+    sink.put(digits.format(signed(width, value)).as_bytes())
+}
+
 pub(crate) fn put_constant(out: &mut Text, width: Width, value: u64) -> Result<(), Failed>
     ensures { OnOk result (out.new.written ≡ out.old.written ++ constant_text width value) }
 {
-    if width == Width::I1 {
-        return out.put(if value == 1 { b"true" } else { b"false" });
-    }
-    let mut digits = Buffer::new();
-    out.put(digits.format(signed(width, value)).as_bytes())
+    constant_to(width, value, out)
 }
 
 pub(crate) fn put_value(
