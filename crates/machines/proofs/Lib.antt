@@ -1,0 +1,3 @@
+pub mod Alike
+pub mod ByFrames
+pub mod Lockstep

@@ -1,0 +1,3 @@
+pub mod Conserved
+pub mod Reaching
+pub mod Runs

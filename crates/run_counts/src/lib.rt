@@ -1,0 +1,5 @@
+//! Counts.
+#![tactic(auto)]
+
+/// The law.
+pub fn placeholder() {}
