@@ -1,3 +1,6 @@
 pub mod Conserved
+pub mod Keys
 pub mod Reaching
 pub mod Runs
+pub mod Splits
+pub mod Tallied
