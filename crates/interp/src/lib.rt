@@ -1,0 +1,10 @@
+//! Bounded runs of modules, with their counts.
+#![tactic(auto)]
+
+mod ends;
+mod running;
+mod starts;
+
+pub use ends::RunEnd;
+pub use running::run;
+pub use starts::main_of;
