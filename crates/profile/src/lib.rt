@@ -3,6 +3,7 @@
 
 pub mod counts;
 pub mod lines;
+mod numbers;
 mod printing;
 mod reading;
 mod sums;

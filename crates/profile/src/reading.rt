@@ -4,6 +4,7 @@ ghost use Rattle.profile.specs.Reading.{Reads, Refuses};
 
 use crate::counts::Profile;
 use ir_types::module::Module;
+use mc_num::NoMemory;
 use std::alloc::Global;
 use thiserror::Error;
 
@@ -28,6 +29,16 @@ pub enum ProfileError {
     /// An allocation was refused.
     #[error("an allocation was refused")]
     NoMemory,
+}
+
+impl From<NoMemory> for ProfileError {
+    ghost use Rattle.profile.specs.declared.reading.ProfileError.TheVariants.{NoMemory};
+
+    ghost from_gives = { λ _ error. error ≡ NoMemory };
+
+    fn from(_: NoMemory) -> ProfileError {
+        ProfileError::NoMemory
+    }
 }
 
 /// The counts that a text says, if they are accepted.
