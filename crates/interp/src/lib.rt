@@ -4,6 +4,7 @@
 mod ends;
 mod running;
 mod starts;
+mod tally;
 
 pub use ends::RunEnd;
 pub use running::run;

@@ -1,6 +1,6 @@
 -- What one event more does to the counts.
 use Rattle.std.proofs.Common.{◌≡◌, ℕ, zero, suc, ◌+◌, ◌-◌, ◌<◌, ◌≤◌, Bool, true, false, cond, eqb, eq-eqb, List, [], ◌∷◌, ◌++◌, length, map, take, filter, Option, Some, None, refl, sym, ap, ◌∙◌, subst, arith}
-use Rattle.std.specs.Prelude.{count_by, slice_get, slice_set, ◌==◌, flat_map, if◌then◌else◌}
+use Rattle.std.specs.Prelude.{count_by, slice_get, slice_set, ◌==◌, ◌&&◌, flat_map, if◌then◌else◌}
 use Rattle.std.specs.List.{enumerate_from, range_with_len}
 use Rattle.std.proofs.lemmas.Bool.{eqb-true}
 use Rattle.std.proofs.lemmas.List.Sums.{sum_by-cons, sum_by_push}
@@ -15,6 +15,10 @@ use Rattle.ir_machine.specs.Prof.{Counts, entries, takings, is_entry, is_taking,
 use Rattle.run_counts.proofs.Runs.{Every}
 use Rattle.run_counts.proofs.Splits.{Split, get_one, set_one, split_before, map-append}
 use Rattle.run_counts.proofs.Keys.{keys_of, keys_from, is_key, slots_before, key_splits, ne_eqb, key_true}
+
+and_both : (a b c : Bool) → ((a && b) && c) ≡ (a && (b && c))
+and_both true b c = refl
+and_both false b c = refl
 
 map-map : {A B C : Type 0} (g : B → C) (f : A → B) (xs : List A) → map g (map f xs) ≡ map (λ x. g (f x)) xs
 map-map g f [] = refl
@@ -34,7 +38,7 @@ pub slot_takings_are : (events : List Event) (function : ℕ) (blocks : List Blo
 slot_takings_are events function blocks = takings_are events function 0 blocks
 
 module _ (events : List Event) (event : Event) where
-  abbrev more : List Event
+  abbrev pub more : List Event
   more = events ++ event ∷ []
 
   takings_more : (f b s : ℕ) → takings more f b s ≡ takings events f b s + (if is_taking f b s event then 1 else 0)
@@ -96,3 +100,107 @@ function_splits i (g ∷ fs) (suc j) f there defined =
     let at : length (front b) + defined_before fs j ≡ defined_before (g ∷ fs) (suc j) = ap (λ k. k + defined_before fs j) (len b) ∙ sym n in
     subst (λ l. Split (is_number (i + suc j)) l (defined_before (g ∷ fs) (suc j)) (i + suc j, f)) (sym (joined b))
     (subst (λ k. Split (is_number (i + suc j)) (front b ++ defined_from (i + 1) fs) k (i + suc j, f)) at c)
+
+-- ---- one event more
+
+map-same : {X Y : Type 0} (f g : X → Y) → ((x : X) → g x ≡ f x) → (xs : List X) → map g xs ≡ map f xs
+map-same f g same [] = refl
+map-same f g same (x ∷ xs) = let a = same x in let b = map-same f g same xs in cc
+
+module _ (events : List Event) (event : Event) where
+  takings_kept : (f b s : ℕ) → is_taking f b s event ≡ false → takings (more events event) f b s ≡ takings events f b s
+  takings_kept f b s no_taking =
+      let picked : Bool → ℕ = λ t. cond t 1 0 in
+      let a = ap picked no_taking in
+      let b' = takings_more events event f b s in
+      omega (arith, a, b')
+
+  takings_raised : (f b s : ℕ) → is_taking f b s event ≡ true → takings (more events event) f b s ≡ takings events f b s + 1
+  takings_raised f b s taking =
+      let picked : Bool → ℕ = λ t. cond t 1 0 in
+      let a = ap picked taking in
+      let b' = takings_more events event f b s in
+      omega (arith, a, b')
+
+  entries_kept : (main f : ℕ) → is_entry f event ≡ false → entries main (more events event) f ≡ entries main events f
+  entries_kept main f no_entry =
+      let picked : Bool → ℕ = λ t. cond t 1 0 in
+      let a = ap picked no_entry in
+      let b = entries_more events event main f in
+      omega (arith, a, b)
+
+  entries_raised : (main f : ℕ) → is_entry f event ≡ true → entries main (more events event) f ≡ entries main events f + 1
+  entries_raised main f entry =
+      let picked : Bool → ℕ = λ t. cond t 1 0 in
+      let a = ap picked entry in
+      let b = entries_more events event main f in
+      omega (arith, a, b)
+
+  slots_kept : (f : ℕ) (blocks : List Block) → ((b s : ℕ) → is_taking f b s event ≡ false) → slot_takings (more events event) f blocks ≡ slot_takings events f blocks
+  slots_kept f blocks no_taking =
+      slot_takings_are (more events event) f blocks
+      ∙ map-same (λ k. takings events f k.0 k.1) (λ k. takings (more events event) f k.0 k.1) (λ k. takings_kept f k.0 k.1 (no_taking k.0 k.1)) (keys_from 0 blocks)
+      ∙ sym (slot_takings_are events f blocks)
+
+  function_kept : (main i : ℕ) (f : Function) → is_entry i event ≡ false → ((b s : ℕ) → is_taking i b s event ≡ false) → function_counts main (more events event) i f ≡ function_counts main events i f
+  function_kept main i f no_entry no_taking =
+      let a = entries_kept main i no_entry in
+      let b = slots_kept i f.blocks no_taking in
+      cc
+
+  -- an event that is neither
+  pub counts_kept : (m : Program) (main : ℕ) → ((i : ℕ) → is_entry i event ≡ false) → ((i b s : ℕ) → is_taking i b s event ≡ false) → counts_of m main (more events event) ≡ counts_of m main events
+  counts_kept m main no_entry no_taking =
+      map-same (λ x. function_counts main events x.0 x.1) (λ x. function_counts main (more events event) x.0 x.1) (λ x. function_kept main x.0 x.1 (no_entry x.0) (no_taking x.0)) (defined_from 0 m.functions)
+
+module _ {Y : Type 0} (told : Counts → Y) (m : Program) (main i : ℕ) (f : Function) (there : slice_get m.functions i ≡ Some f) (defined : is_defined f.blocks ≡ true) where
+  abbrev told_counts : List Event → List Y
+  told_counts events = map told (counts_of m main events)
+
+  split_here : Split (is_number i) (defined_from 0 m.functions) (defined_before m.functions i) (i, f)
+  split_here =
+      let z : 0 + i ≡ i = omega arith in
+      subst (λ n. Split (is_number n) (defined_from 0 m.functions) (defined_before m.functions i) (n, f)) z (function_splits 0 m.functions i f there defined)
+
+  abbrev counts_in : List Event → ℕ × Function → Y
+  counts_in events x = told (function_counts main events x.0 x.1)
+
+  joined : (events : List Event) → told_counts events ≡ map (counts_in events) (defined_from 0 m.functions)
+  joined events = map-map told (λ x. function_counts main events x.0 x.1) (defined_from 0 m.functions)
+
+  -- the counts of the function, at its place
+  pub counts_at : (events : List Event) → slice_get (told_counts events) (defined_before m.functions i) ≡ Some (told (function_counts main events i f))
+  counts_at events = ap (λ l. slice_get l (defined_before m.functions i)) (joined events) ∙ get_one (is_number i) (defined_from 0 m.functions) (defined_before m.functions i) (i, f) split_here (counts_in events)
+
+  -- an event of the function changes its counts alone
+  pub counts_set : (events : List Event) (event : Event) → ((k : ℕ) → (i == k) ≡ false → is_entry k event ≡ false) → ((k b s : ℕ) → (i == k) ≡ false → is_taking k b s event ≡ false) → told_counts (more events event) ≡ slice_set (told_counts events) (defined_before m.functions i) (told (function_counts main (more events event) i f))
+  counts_set events event no_entry no_taking =
+      joined (more events event)
+      ∙ set_one (is_number i) (defined_from 0 m.functions) (defined_before m.functions i) (i, f) split_here (counts_in events) (counts_in (more events event))
+      (λ x other. ap told (function_kept events event main x.0 x.1 (no_entry x.0 other) (λ b s. no_taking x.0 b s other)))
+      ∙ ap (λ l. slice_set l (defined_before m.functions i) (told (function_counts main (more events event) i f))) (sym (joined events))
+
+-- an entry
+pub entered_counts : (main i : ℕ) (f : Function) (events : List Event) → function_counts main (more events (Entered i)) i f ≡ record { entry = entries main events i + 1; slots = slot_takings events i f.blocks }
+entered_counts main i f events =
+    let a = entries_raised events (Entered i) main i (eq-eqb i i refl) in
+    let b = slots_kept events (Entered i) i f.blocks (λ b s. refl) in
+    cc
+
+-- a slot taken
+pub took_counts : (main i : ℕ) (f : Function) (b s : ℕ) (block : Block) (events : List Event) → slice_get f.blocks b ≡ Some block → s < slot_count block.term → (slice_get (slot_takings events i f.blocks) (slots_before f.blocks b + s) ≡ Some (takings events i b s)) × (function_counts main (more events (Took i b s)) i f ≡ record { entry = entries main events i; slots = slice_set (slot_takings events i f.blocks) (slots_before f.blocks b + s) (takings events i b s + 1) })
+took_counts main i f b s block events there lt =
+    let at = slots_before f.blocks b + s in
+    let keys = keys_from 0 f.blocks in
+    let z : 0 + b ≡ b = omega arith in
+    let split = subst (λ n. Split (is_key n s) keys at (n, s)) z (key_splits 0 f.blocks b s block there lt) in
+    let before : ℕ × ℕ → ℕ = λ k. takings events i k.0 k.1 in
+    let after : ℕ × ℕ → ℕ = λ k. takings (more events (Took i b s)) i k.0 k.1 in
+    let itself : (i == i) ≡ true = eq-eqb i i refl in
+    let test : (k : ℕ × ℕ) → is_taking i k.0 k.1 (Took i b s) ≡ is_key b s k = λ k. and_both (i == i) (b == k.0) (s == k.1) ∙ ap (λ t. t && is_key b s k) itself in
+    let same : (k : ℕ × ℕ) → is_key b s k ≡ false → after k ≡ before k = λ k other. takings_kept events (Took i b s) i k.0 k.1 (test k ∙ other) in
+    let here = takings_raised events (Took i b s) i b s (test (b, s) ∙ key_true b s) in
+    let get = ap (λ l. slice_get l at) (slot_takings_are events i f.blocks) ∙ get_one (is_key b s) keys at (b, s) split before in
+    let set = slot_takings_are (more events (Took i b s)) i f.blocks ∙ set_one (is_key b s) keys at (b, s) split before after same ∙ ap (λ l. slice_set l at (after (b, s))) (sym (slot_takings_are events i f.blocks)) ∙ ap (slice_set (slot_takings events i f.blocks) at) here in
+    let e = entries_kept events (Took i b s) main i refl in
+    (get, cc)
