@@ -1,5 +1,5 @@
 -- What a bounded run of a module's main answers, takes and puts.
-use Rattle.std.specs.Prelude.{◌≡◌, ◌⊎◌, ℕ, ◌+◌, ◌<◌, ◌≤◌, List, [], ◌∷◌, ◌++◌, Option, Some, None, Result, Ok, Err, IsTrue, IsSome, IfOk}
+use Rattle.std.specs.Prelude.{◌≡◌, ◌⊎◌, ℕ, ◌+◌, ◌<◌, ◌≤◌, List, [], ◌∷◌, ◌++◌, Option, Some, None, Result, Ok, Err, IsTrue, IsSome, IfOk, IfErr}
 use Rattle.mc_num.specs.declared.memory.NoMemory.{NoMemory}
 use Rattle.mc_host.specs.Faults.{Rose}
 use Rattle.mc_host.specs.Streams.{SourceState, SinkState}
@@ -86,6 +86,8 @@ pub record CameTo (m : Program) (limit : ℕ) (source source' : SourceState) (si
 -- a run of at most so many steps from a source to a sink
 pub record Ran (m : Program) (limit : ℕ) (source source' : SourceState) (sink sink' : SinkState) (result : Result RunEnd NoMemory) : Type 0 where
   pub cause : IfOk result (HasCause m source source' sink sink')
+  -- want of memory comes only where there is a main
+  pub main : IfErr result (λ reason. IsSome (main_of m))
   pub ends : IsTrue source.tells → IfOk result (EndsAs m source.left limit)
   pub so_far : IsTrue source.tells → CameTo m limit source source' sink sink' result
   pub source_faults : source.faults ≤ source'.faults

@@ -7,7 +7,7 @@ ghost use Rattle.interp.specs.Tallies.{starts_from, slots_in, IsEventOf};
 use flow_graph::slots_len;
 use ir_types::items::Items;
 use ir_types::module::Module;
-use ir_types::syntax::Block;
+use ir_types::syntax::{Block, Function};
 use machines::Event;
 use mc_num::NoMemory;
 use profile::{FnCounts, Profile};
@@ -68,32 +68,55 @@ fn raised(count: u64) -> u64
     count.saturating_add(1)
 }
 
+fn raise_at(counts: &mut Items<u64>, place: usize)
+    ensures { (count : ℕ) → slice_get counts.old place ≡ Some count → counts.new ≡ slice_set counts.old place (min (count + 1) (2 ^ 64 - 1)) }
+{
+    if let Some(count) = counts.get(place).copied() {
+        counts.set(place, raised(count));
+    }
+}
+
 impl Tally {
-    ghost use Rattle.interp.specs.TallyOf.{IsTally, CanAdd};
+    ghost use Rattle.interp.specs.TallyOf.{IsTally, CanAdd, first_counts};
 
     /// The counts before the first step of a run that begins with the function of this number. `NoMemory` where an allocation was refused.
     pub(crate) fn new(alloc: Global, program: &Module<'_>, main: u32) -> Result<Tally, NoMemory>
         ensures { IfOk result (λ tally. IsTally program.now main [] tally) }
     {
-        let mut counts = Vec::new(alloc);
-        let mut places = Vec::new(alloc);
+        let mut tally = Tally {
+            counts: Vec::new(alloc),
+            places: Vec::new(alloc),
+        };
         for (number, function) in program.functions().iter().enumerate() {
-            let (starts, slots) = empty_slots(alloc, function.blocks.as_slice())?;
-            places.push(Places {
-                index: counts.len(),
-                starts,
-            })?;
-            if function.blocks.len() != 0 {
-                let entry = u64::from(number == main as usize);
-                counts.push(FnCounts { entry, slots })?;
-            }
+            tally.add_function(alloc, function, number == main as usize)?;
         }
-        Ok(Tally { counts, places })
+        Ok(tally)
+    }
+
+    // Counts of 0 for one function more, but for the first entry of main.
+    fn add_function(
+        &mut self,
+        alloc: Global,
+        function: &Function<'_>,
+        is_main: bool,
+    ) -> Result<(), NoMemory>
+        ensures counts { OnOk result (self.new.counts.items ≡ self.old.counts.items ++ first_counts is_main function.now) }
+        ensures places { OnOk result (self.new.places.items ≡ self.old.places.items ++ record { index = length self.old.counts.items; starts = starts_from 0 function.now.blocks } ∷ []) }
+    {
+        let (starts, slots) = empty_slots(alloc, function.blocks.as_slice())?;
+        let index = self.counts.len();
+        self.places.push(Places { index, starts })?;
+        if function.blocks.len() == 0 {
+            return Ok(());
+        }
+        let entry = u64::from(is_main);
+        self.counts.push(FnCounts { entry, slots })?;
+        Ok(())
     }
 
     fn enter(&mut self, function: u32)
         requires { CanAdd (Event.Entered function) self.old }
-        ensures { (m : Program) (main : ℕ) (events : List Event) → IsTally m main events self.old → IsEventOf m (Event.Entered function) → length events + 1 < 2 ^ 64 → IsTally m main (events ++ Event.Entered function ∷ []) self.new }
+        ensures { (m : Program) (main : ℕ) (events : List Event) → IsTally m main events self.old → IsEventOf m (Event.Entered function) → length events < 2 ^ 63 → IsTally m main (events ++ Event.Entered function ∷ []) self.new }
     {
         let index = self.places[function as usize].index;
         let counts = &mut self.counts[index];
@@ -102,19 +125,18 @@ impl Tally {
 
     fn take(&mut self, function: u32, block: u32, slot: u32)
         requires { CanAdd (Event.Took function block slot) self.old }
-        ensures { (m : Program) (main : ℕ) (events : List Event) → IsTally m main events self.old → IsEventOf m (Event.Took function block slot) → length events + 1 < 2 ^ 64 → IsTally m main (events ++ Event.Took function block slot ∷ []) self.new }
+        ensures { (m : Program) (main : ℕ) (events : List Event) → IsTally m main events self.old → IsEventOf m (Event.Took function block slot) → length events < 2 ^ 63 → IsTally m main (events ++ Event.Took function block slot ∷ []) self.new }
     {
         let places = &self.places[function as usize];
         let counts = &mut self.counts[places.index];
         let place = slot_place(places.starts.as_slice(), counts.slots.as_slice(), block, slot);
-        let count = counts.slots.as_slice()[place];
-        counts.slots.set(place, raised(count));
+        raise_at(&mut counts.slots, place);
     }
 
     /// Counts an event. No memory.
     pub(crate) fn add(&mut self, event: Event)
         requires { CanAdd event self.old }
-        ensures { (m : Program) (main : ℕ) (events : List Event) → IsTally m main events self.old → IsEventOf m event → length events + 1 < 2 ^ 64 → IsTally m main (events ++ event ∷ []) self.new }
+        ensures { (m : Program) (main : ℕ) (events : List Event) → IsTally m main events self.old → IsEventOf m event → length events < 2 ^ 63 → IsTally m main (events ++ event ∷ []) self.new }
     {
         match event {
             Event::Entered(function) => self.enter(function),

@@ -9,4 +9,5 @@ pub mod Runs
 pub mod Splits
 pub mod Tallied
 pub mod Totals
+pub mod Walked
 pub mod Weighed

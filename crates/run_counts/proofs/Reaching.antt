@@ -49,10 +49,10 @@ module _ {F G : Type 0} (frames : Frames F G) (at : F → Place) (target : ℕ �
   acted_found (Returns value) top (caller ∷ below) g e r rs = (tt, (subst IsReached (sym (stands.gives caller value)) rs.0, rs.1))
   acted_found (Traps trap) top below g e r rs = (tt, (r, rs))
 
-  turn_found : (r : Running F G) → AllReached r → Found (turn frames r)
+  pub turn_found : (r : Running F G) → AllReached r → Found (turn frames r)
   turn_found r all = acted_found (frames.act r.globals r.top) r.top r.below r.globals refl all.0 all.1
 
-  got_reached : (r : Running F G) (value : ℕ) → AllReached r → AllReached (got frames r value)
+  pub got_reached : (r : Running F G) (value : ℕ) → AllReached r → AllReached (got frames r value)
   got_reached r value all = (subst IsReached (sym (stands.gives r.top (Some value))) all.0, all.1)
 
   abbrev AllFound : List Event → Type 0

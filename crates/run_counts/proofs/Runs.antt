@@ -63,7 +63,7 @@ module _ {F G : Type 0} (frames : Frames F G) (at : F → Place) (target : ℕ �
     abbrev leaves : List Event → ℕ
     leaves es = sum_by (leaving_by target weight) es
 
-    got_stood : (r : Running F G) (value : ℕ) → Stood (got frames r value) ≡ Stood r
+    pub got_stood : (r : Running F G) (value : ℕ) → Stood (got frames r value) ≡ Stood r
     got_stood r value = ap (λ p. weight p + sum_by (λ f. weight (at f)) r.below) (stands.gives r.top (Some value))
 
     abbrev Conserved : ℕ → State F G → Type 0
