@@ -5,4 +5,4 @@ mod reaching;
 mod slots;
 
 pub use reaching::reachable;
-pub use slots::{slot_count, target};
+pub use slots::{slot_count, slot_target, slots_len, target};

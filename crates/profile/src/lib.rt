@@ -1,13 +1,14 @@
-// A library with one function.
+//! Profiles: counts of a module, their text, and their balance.
 #![tactic(auto)]
 
-ghost use Rattle.std.specs.Prelude.{◌≡◌};
-ghost use Rattle.profile.specs.Echo.{echo_of};
+pub mod counts;
+pub mod lines;
+mod numbers;
+mod printing;
+mod reading;
+mod sums;
 
-// The `ensures` clause is the contract: what `echo` returns is `echo_of` of its argument, a definition
-// in `specs/Echo.antt`, which a caller's clause can cite too.
-pub fn echo(x: usize) -> usize
-    ensures { result ≡ echo_of x }
-{
-    x
-}
+pub use counts::{FnCounts, Profile};
+pub use printing::print_profile;
+pub use reading::{ProfileError, read_profile};
+pub use sums::{balanced, count_of_block};

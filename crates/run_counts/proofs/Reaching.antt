@@ -5,8 +5,9 @@ use Rattle.machines.specs.declared.events.Event.TheVariants.{Went, Took, Entered
 use Rattle.machines.specs.Runs.{Exchange, Progress, At, Over}
 use Rattle.machines.specs.Acts.{Act, Slot, Goes, Calls, Reads, Writes, Returns, Traps, Frames, Running, Turn, acted, turn, got}
 use Rattle.machines.specs.Meaning.{State, state, End, ByReturn, ByTrap, effect_of, followed}
+use Rattle.machines.specs.Events.{events_of}
 use Rattle.run_counts.proofs.Conserved.{Place, place, Stands}
-use Rattle.run_counts.proofs.Runs.{events, Every, over_events}
+use Rattle.run_counts.proofs.Runs.{Every, over_events}
 
 abbrev pub slot_at : ℕ → ℕ → ℕ → Slot
 slot_at f b s = record { function = f; block = b; slot = s }
@@ -48,16 +49,16 @@ module _ {F G : Type 0} (frames : Frames F G) (at : F → Place) (target : ℕ �
   acted_found (Returns value) top (caller ∷ below) g e r rs = (tt, (subst IsReached (sym (stands.gives caller value)) rs.0, rs.1))
   acted_found (Traps trap) top below g e r rs = (tt, (r, rs))
 
-  turn_found : (r : Running F G) → AllReached r → Found (turn frames r)
+  pub turn_found : (r : Running F G) → AllReached r → Found (turn frames r)
   turn_found r all = acted_found (frames.act r.globals r.top) r.top r.below r.globals refl all.0 all.1
 
-  got_reached : (r : Running F G) (value : ℕ) → AllReached r → AllReached (got frames r value)
+  pub got_reached : (r : Running F G) (value : ℕ) → AllReached r → AllReached (got frames r value)
   got_reached r value all = (subst IsReached (sym (stands.gives r.top (Some value))) all.0, all.1)
 
   abbrev AllFound : List Event → Type 0
   AllFound es = Every (IsFound IsSlot IsDefined IsReached) es
 
-  found_more : (n : ℕ) → ((s : State F G) → AllReached s.running → AllFound (events frames n (At s))) → (event : Event) (running : Running F G) (input : List ℕ) (w : List Exchange) → AllReached running → AllFound (events frames n (followed frames (effect_of event) running input w))
+  found_more : (n : ℕ) → ((s : State F G) → AllReached s.running → AllFound (events_of frames n (At s))) → (event : Event) (running : Running F G) (input : List ℕ) (w : List Exchange) → AllReached running → AllFound (events_of frames n (followed frames (effect_of event) running input w))
   found_more n rest Went running input w all = rest _ all
   found_more n rest (Took f b s) running input w all = rest _ all
   found_more n rest (Entered f) running input w all = rest _ all
@@ -67,7 +68,7 @@ module _ {F G : Type 0} (frames : Frames F G) (at : F → Place) (target : ℕ �
   found_more n rest (Returned value) running input w all = subst AllFound (sym (over_events frames n (ByReturn value) w)) tt
   found_more n rest (Trapped trap) running input w all = subst AllFound (sym (over_events frames n (ByTrap trap) w)) tt
 
-  pub run_found : (n : ℕ) (s : State F G) → AllReached s.running → AllFound (events frames n (At s))
+  pub run_found : (n : ℕ) (s : State F G) → AllReached s.running → AllFound (events_of frames n (At s))
   run_found zero s all = tt
   run_found (suc n) s all =
       let t = turn_found s.running all in

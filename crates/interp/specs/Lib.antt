@@ -1,0 +1,4 @@
+pub mod Main
+pub mod Run
+pub mod Tallies
+pub mod TallyOf
