@@ -1,7 +1,6 @@
 -- What an ending of a row says.
 use Rattle.std.proofs.Common.{◌≡◌, ◌<◌, ℕ, List, Option, None, Some, Ok, Err, IsTrue, ◌⊎◌, inl, inr, refl, sym, ap, subst, ◌∙◌, arith}
 use Rattle.mc_num.specs.declared.op.Trap.{Trap}
-use Rattle.mc_host.specs.Faults.{Rose}
 use Rattle.ir_reader.specs.Reading.{HasOneAnswer}
 use Rattle.top_call.specs.declared.ending.Done.{Done}
 use Rattle.top_call.specs.declared.ending.Done.TheVariants.{Written, Returned}
@@ -9,7 +8,7 @@ use Rattle.top_call.specs.declared.ending.Stop.TheVariants.{Usage, Refused, Read
 use Rattle.top_call.specs.Ending.{Ending, status_of}
 use Rattle.top_call.specs.Row.{Row, Print, Run}
 use Rattle.top_call.specs.World.{World, AreStill}
-use Rattle.top_call.specs.Top.{Ends, IsRefused, IsAccepted, IsTrapped, IsAtLimit, IsDone, IsPartlyDone, IsQuiet, HasMoved}
+use Rattle.top_call.specs.Top.{Ends, IsRefused, IsAccepted, IsTrapped, IsAtLimit, IsDone, IsPartlyDone, HasReadFault, HasWriteFault, IsQuiet, HasMoved}
 use Rattle.top_call.proofs.Endings.{print_not_done, print_complete}
 use Rattle.top_call.proofs.RunEndings.{run_not_done, run_complete, run_traps, run_ends_nothing, run_trapped, run_limited, run_moved, run_still}
 
@@ -57,14 +56,12 @@ module _ (one : (bytes : List ℕ) → HasOneAnswer bytes) (old new : World) (en
   not_done (Some (Run limit input profile)) ends tells refused = run_not_done one limit input profile old new ending ends tells refused.0 refused.1
 
   pub complete : (row : Option Row) → Ends row old new ending → IsTrue old.host.tells → IsAccepted row old
-      → ¬ (Rose old.host.read_faults new.host.read_faults) → ¬ (Rose old.host.write_faults new.host.write_faults)
-      → ¬ (Rose old.input.faults new.input.faults) → ¬ (Rose old.out.faults new.out.faults)
-      → (status_of ending ≡ 0) ⊎ (status_of ending ≡ 5)
-  complete None ends tells accepted reads writes input out = absurd accepted
-  complete (Some (Print file output)) ends tells accepted reads writes input out =
-      print_complete one old.host file output new.host ending ends.0 tells accepted.0 accepted.1 reads writes
-  complete (Some (Run limit file profile)) ends tells accepted reads writes input out =
-      run_complete one limit file profile old new ending ends tells accepted.0 accepted.1 reads writes input out
+      → ¬ (HasReadFault row old new) → ¬ (HasWriteFault row old new) → (status_of ending ≡ 0) ⊎ (status_of ending ≡ 5)
+  complete None ends tells accepted reads writes = absurd accepted
+  complete (Some (Print input output)) ends tells accepted reads writes =
+      print_complete one old.host input output new.host ending ends.0 tells accepted.0 accepted.1 reads writes
+  complete (Some (Run limit input profile)) ends tells accepted reads writes =
+      run_complete one limit input profile old new ending ends tells accepted.0 accepted.1 reads writes
 
   pub traps : (row : Option Row) → Ends row old new ending → IsTrue old.host.tells → IsTrue old.input.tells → IsTrapped row old
       → (status_of ending ≡ 7) ⊎ (status_of ending ≡ 3) ⊎ (status_of ending ≡ 4) ⊎ (status_of ending ≡ 5)

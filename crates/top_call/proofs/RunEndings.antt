@@ -118,22 +118,22 @@ module _ (one : (bytes : List ℕ) → HasOneAnswer bytes) (limit : ℕ) (input 
   -- ---- what the run comes to, and the ending
 
   no_read_fault : (name : List ℕ) → IsFileFault input old new name ⊎ IsInputFault limit input old new name
-      → ¬ (Rose old.host.read_faults new.host.read_faults) → ¬ (Rose old.input.faults new.input.faults) → ⊥
-  no_read_fault name (inl fault) reads takes = reads fault.2
-  no_read_fault name (inr fault) reads takes = takes fault.1
+      → ¬ (Rose old.host.read_faults new.host.read_faults ⊎ Rose old.input.faults new.input.faults) → ⊥
+  no_read_fault name (inl fault) reads = reads (inl fault.2)
+  no_read_fault name (inr fault) reads = reads (inr fault.1)
 
   pub run_complete : (ending : Ending) → RunEnds limit input profile old new ending → IsTrue old.host.tells → IsTrue old.input.tells → Returns limit input old
-      → ¬ (Rose old.host.read_faults new.host.read_faults) → ¬ (Rose old.host.write_faults new.host.write_faults)
-      → ¬ (Rose old.input.faults new.input.faults) → ¬ (Rose old.out.faults new.out.faults) → (status_of ending ≡ 0) ⊎ (status_of ending ≡ 5)
-  run_complete (Ok done) ends tells told to reads writes takes puts = inl refl
-  run_complete (Err (Refused file problem)) ends tells told to reads writes takes puts = absurd (runs_without_problem _ to.2 problem (ends.3 tells))
-  run_complete (Err (ReadFault name)) ends tells told to reads writes takes puts = absurd (no_read_fault name.now ends.1 reads takes)
-  run_complete (Err (WriteFault name)) (inl fault) tells told to reads writes takes puts = absurd (puts fault.2)
-  run_complete (Err (WriteFault name)) (inr fault) tells told to reads writes takes puts = absurd (writes fault.1)
-  run_complete (Err OutOfMemory) ends tells told to reads writes takes puts = inr refl
-  run_complete (Err (Trapped trap)) ends tells told to reads writes takes puts = absurd (comes _ _ (ends.1 tells) told to.2).1
-  run_complete (Err (StepLimit steps)) ends tells told to reads writes takes puts = absurd (comes _ _ (ends.2 tells) told to.2).1
-  run_complete (Err Usage) ends tells told to reads writes takes puts = absurd ends
+      → ¬ (Rose old.host.read_faults new.host.read_faults ⊎ Rose old.input.faults new.input.faults)
+      → ¬ (Rose old.host.write_faults new.host.write_faults ⊎ Rose old.out.faults new.out.faults) → (status_of ending ≡ 0) ⊎ (status_of ending ≡ 5)
+  run_complete (Ok done) ends tells told to reads writes = inl refl
+  run_complete (Err (Refused file problem)) ends tells told to reads writes = absurd (runs_without_problem _ to.2 problem (ends.3 tells))
+  run_complete (Err (ReadFault name)) ends tells told to reads writes = absurd (no_read_fault name.now ends.1 reads)
+  run_complete (Err (WriteFault name)) (inl fault) tells told to reads writes = absurd (writes (inr fault.2))
+  run_complete (Err (WriteFault name)) (inr fault) tells told to reads writes = absurd (writes (inl fault.1))
+  run_complete (Err OutOfMemory) ends tells told to reads writes = inr refl
+  run_complete (Err (Trapped trap)) ends tells told to reads writes = absurd (comes _ _ (ends.1 tells) told to.2).1
+  run_complete (Err (StepLimit steps)) ends tells told to reads writes = absurd (comes _ _ (ends.2 tells) told to.2).1
+  run_complete (Err Usage) ends tells told to reads writes = absurd ends
 
   pub run_traps : (ending : Ending) → RunEnds limit input profile old new ending → IsTrue old.host.tells → IsTrue old.input.tells → Traps limit input old
       → (status_of ending ≡ 7) ⊎ (status_of ending ≡ 3) ⊎ (status_of ending ≡ 4) ⊎ (status_of ending ≡ 5)

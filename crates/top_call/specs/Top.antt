@@ -58,6 +58,20 @@ IsPartlyDone None old new = ⊥
 IsPartlyDone (Some (Print input output)) old new = LeavesPart input output old.host new.host
 IsPartlyDone (Some (Run limit input profile)) old new = run.LeavesProfilePart limit input profile old new
 
+-- a count of the reads that the row makes rose: of files, and for a run of the standard input
+abbrev pub HasReadFault : Option Row → World → World → Type 0
+HasReadFault None old new = ⊥
+HasReadFault (Some (Print input output)) old new = Rose old.host.read_faults new.host.read_faults
+HasReadFault (Some (Run limit input profile)) old new =
+    Rose old.host.read_faults new.host.read_faults ⊎ Rose old.input.faults new.input.faults
+
+-- a count of the writes that the row makes rose: of files, and for a run of the standard output
+abbrev pub HasWriteFault : Option Row → World → World → Type 0
+HasWriteFault None old new = ⊥
+HasWriteFault (Some (Print input output)) old new = Rose old.host.write_faults new.host.write_faults
+HasWriteFault (Some (Run limit input profile)) old new =
+    Rose old.host.write_faults new.host.write_faults ⊎ Rose old.out.faults new.out.faults
+
 -- the row, ended by this status, leaves the standard input and output as they were
 abbrev pub IsQuiet : Option Row → World → World → ℕ → Type 0
 IsQuiet None old new status = Unit {0}

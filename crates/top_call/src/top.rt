@@ -1,10 +1,9 @@
 //! The top call.
 ghost use Rattle.std.specs.Prelude.{◌≡◌, ◌⊎◌, ◌↔◌, ◌≤◌, ℕ, List, IsTrue, IsNone};
-ghost use Rattle.mc_host.specs.Faults.{Rose};
 ghost use Rattle.top_call.specs.Row.{row_of, texts};
 ghost use Rattle.top_call.specs.Lines.{Answers};
 ghost use Rattle.top_call.specs.World.{world};
-ghost use Rattle.top_call.specs.Top.{MayDo, Ends, Writes, IsRefused, IsAccepted, IsTrapped, IsAtLimit, IsDone, IsPartlyDone, IsQuiet, HasMoved};
+ghost use Rattle.top_call.specs.Top.{MayDo, Ends, Writes, IsRefused, IsAccepted, IsTrapped, IsAtLimit, IsDone, IsPartlyDone, HasReadFault, HasWriteFault, IsQuiet, HasMoved};
 
 use crate::command::{Command, command_of};
 use crate::ending::Stop;
@@ -82,11 +81,9 @@ pub fn mcpre<H: Host, I: Source, O: Sink, E: Sink>(
     // The words alone decide whether there is a row.
     ensures usage { (result ≡ 2) ↔ IsNone (row_of (texts words.now)) }
 
-    // A fault is told only where a count rose in this call.
-    ensures read_fault { result ≡ 3 → Rose (H.state host.old).read_faults (H.state host.new).read_faults
-        ⊎ Rose (I.state input.old).faults (I.state input.new).faults }
-    ensures write_fault { result ≡ 4 → Rose (H.state host.old).write_faults (H.state host.new).write_faults
-        ⊎ Rose (O.state out.old).faults (O.state out.new).faults }
+    // A fault is told only where a count that the row may raise rose in this call.
+    ensures read_fault { result ≡ 3 → HasReadFault (row_of (texts words.now)) (world (H.state host.old) (I.state input.old) (O.state out.old)) (world (H.state host.new) (I.state input.new) (O.state out.new)) }
+    ensures write_fault { result ≡ 4 → HasWriteFault (row_of (texts words.now)) (world (H.state host.old) (I.state input.old) (O.state out.old)) (world (H.state host.new) (I.state input.new) (O.state out.new)) }
 
     // A refusal is told exactly where a file that the row reads has a problem; only a fault or want of memory hides it.
     ensures refused { IsTrue (H.state host.old).tells → result ≡ 1 → IsRefused (row_of (texts words.now)) (H.state host.old) }
@@ -103,10 +100,8 @@ pub fn mcpre<H: Host, I: Source, O: Sink, E: Sink>(
 
     // Where the files are accepted, the run returns and no count rose, the row is done, if there was memory.
     ensures complete { IsTrue (H.state host.old).tells → IsAccepted (row_of (texts words.now)) (world (H.state host.old) (I.state input.old) (O.state out.old)) →
-        ¬ (Rose (H.state host.old).read_faults (H.state host.new).read_faults) →
-        ¬ (Rose (H.state host.old).write_faults (H.state host.new).write_faults) →
-        ¬ (Rose (I.state input.old).faults (I.state input.new).faults) →
-        ¬ (Rose (O.state out.old).faults (O.state out.new).faults) → (result ≡ 0) ⊎ (result ≡ 5) }
+        ¬ (HasReadFault (row_of (texts words.now)) (world (H.state host.old) (I.state input.old) (O.state out.old)) (world (H.state host.new) (I.state input.new) (O.state out.new))) →
+        ¬ (HasWriteFault (row_of (texts words.now)) (world (H.state host.old) (I.state input.old) (O.state out.old)) (world (H.state host.new) (I.state input.new) (O.state out.new))) → (result ≡ 0) ⊎ (result ≡ 5) }
 
     // What each status leaves.
     ensures done { IsTrue (H.state host.old).tells → result ≡ 0 → IsDone (row_of (texts words.now)) (world (H.state host.old) (I.state input.old) (O.state out.old)) (world (H.state host.new) (I.state input.new) (O.state out.new)) }

@@ -18,7 +18,7 @@ pub returns-clause-limit : goal.returns-clause-limit
 returns-clause-limit g c = λ tells told stands. let e = c.answer.ensures.ends in rw e.status_is (ends_nothing c.one_answer.ensures _ _ e.ending (row_of (texts c.args.words.now)) e.ends tells told stands)
 
 pub returns-clause-complete : goal.returns-clause-complete
-returns-clause-complete g c = λ tells accepted reads writes takes puts. let e = c.answer.ensures.ends in rw e.status_is (complete c.one_answer.ensures _ _ e.ending (row_of (texts c.args.words.now)) e.ends tells accepted reads writes takes puts)
+returns-clause-complete g c = λ tells accepted reads writes. let e = c.answer.ensures.ends in rw e.status_is (complete c.one_answer.ensures _ _ e.ending (row_of (texts c.args.words.now)) e.ends tells accepted reads writes)
 
 pub returns-clause-done : goal.returns-clause-done
 returns-clause-done g c = λ tells zero. let e = c.answer.ensures.ends in done _ _ (row_of (texts c.args.words.now)) e.ending e.ends _ e.status_is tells zero
