@@ -1,3 +1,4 @@
+pub mod Follows
 pub mod Main
 pub mod Run
 pub mod Tallies

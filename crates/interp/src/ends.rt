@@ -18,3 +18,12 @@ pub enum RunEnd {
     /// The module has no defined function `main` without parameters.
     NoMain,
 }
+
+/// What stops a run before its limit.
+#[derive(Debug, Drop)]
+pub(crate) enum Stop {
+    Returned(Option<u64>),
+    Trapped(Trap),
+    ReadFault,
+    WriteFault,
+}
