@@ -1,2 +1,4 @@
 pub mod Fronts
 pub mod Runs
+pub mod Widths
+pub mod Outlines
