@@ -2,3 +2,4 @@ pub mod Fronts
 pub mod Runs
 pub mod Widths
 pub mod Outlines
+pub mod Functions
