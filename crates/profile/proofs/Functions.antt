@@ -15,7 +15,7 @@ use Rattle.profile.specs.declared.lines.Line.{Line}
 use Rattle.profile.specs.declared.lines.Line.TheVariants as line
 use Rattle.profile.specs.declared.reading.ProfileError.{ProfileError}
 use Rattle.profile.specs.declared.reading.ProfileError.TheVariants.{Form, Shape, Unbalanced, Unreached, Total, NoMemory}
-use Rattle.profile.specs.Counts.{defined, HasSlots, HasShape}
+use Rattle.profile.specs.Counts.{is_defined, defined, HasSlots, HasShape}
 use Rattle.profile.specs.Text.{block_lines, function_lines, lines}
 use Rattle.profile.specs.Reading.{Outline, outline, FunctionLine, BlockLine, block_outlines, function_outlines, outlines, IsFirstDifference, HasLines, Refuses}
 use Rattle.profile.specs.Shapes.{DiffersAt, FailsAt, AreFunction}
@@ -135,10 +135,6 @@ functions_more fs read at counts f c s a = record {
   where
     number : (n k : ℕ) → n ≡ k → k ≡ 0 + n
     number n k e = omega arith
-
--- whether a function has blocks
-abbrev pub is_defined : Function → Bool
-is_defined f = not (is_nil f.blocks)
 
 pub is_nil_is : {X : Type 0} (xs : List X) → is_nil xs ≡ (length xs == 0)
 is_nil_is [] = refl

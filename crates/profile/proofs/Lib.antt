@@ -3,3 +3,4 @@ pub mod Runs
 pub mod Widths
 pub mod Outlines
 pub mod Functions
+pub mod Printed
