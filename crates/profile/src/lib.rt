@@ -6,6 +6,7 @@ pub mod lines;
 mod numbers;
 mod printing;
 mod reading;
+mod shapes;
 mod sums;
 
 pub use counts::{FnCounts, Profile};

@@ -5,7 +5,7 @@ ghost use Rattle.profile.specs.Reading.{Reads, Refuses};
 use crate::counts::Profile;
 use ir_types::module::Module;
 use mc_num::NoMemory;
-use std::alloc::Global;
+use std::alloc::{AllocError, Global};
 use thiserror::Error;
 
 /// Why a text is no profile of a module. Lines are counted from 1, functions that have blocks and blocks from 0.
@@ -37,6 +37,16 @@ impl From<NoMemory> for ProfileError {
     ghost from_gives = { λ _ error. error ≡ NoMemory };
 
     fn from(_: NoMemory) -> ProfileError {
+        ProfileError::NoMemory
+    }
+}
+
+impl From<AllocError> for ProfileError {
+    ghost use Rattle.profile.specs.declared.reading.ProfileError.TheVariants.{NoMemory};
+
+    ghost from_gives = { λ _ error. error ≡ NoMemory };
+
+    fn from(_: AllocError) -> ProfileError {
         ProfileError::NoMemory
     }
 }
