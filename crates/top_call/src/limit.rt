@@ -1,5 +1,5 @@
 //! A number of steps as a word.
-ghost use Rattle.std.specs.Prelude.{◌≡◌, ◌^◌, ◌-◌, ◌≤◌, ◌<◌, min, IfSome};
+ghost use Rattle.std.specs.Prelude.{◌≡◌, ◌^◌, ◌-◌, ◌<◌, min, IfSome};
 ghost use Rattle.std.specs.Char.{digit_value};
 ghost use Rattle.std.specs.Str.Parse.{digits_value};
 ghost use Rattle.top_call.specs.Row.{limit_of};
@@ -29,7 +29,7 @@ fn number(digits: &[u8]) -> u64
 /// The number of steps that a word gives: from 1 to 2^62 - 1, in decimal, without sign or leading zeros.
 pub(crate) fn limit_of(word: &str) -> Option<u64>
     ensures number { result ≡ limit_of word.now }
-    ensures limits { IfSome result (λ n. (1 ≤ n) × (n < 2 ^ 62)) }
+    ensures limits { IfSome result (λ n. n < 2 ^ 62) }
 {
     let limit = number(word.as_bytes());
     if limit == 0 || limit >= 1 << 62 {

@@ -48,8 +48,7 @@ fn returned<'a, I: Source, O: Sink>(
     input: &mut I,
     out: &mut O,
 ) -> Result<(Option<u64>, Profile), Stop<'a>>
-    requires from_one { 1 ≤ limit }
-    requires limited { limit < 2 ^ 62 }
+    requires { limit < 2 ^ 62 }
     ensures ran { IfOk result (λ r. Ran program.now limit (I.state input.old) (I.state input.new) (O.state out.old) (O.state out.new) (Ok (runs.Returned r.0 r.1))) }
     ensures stops { (host : HostState) → (host' : HostState) → IfErr result (StopsRunning file.now limit program.now (world host (I.state input.old) (O.state out.old)) (world host' (I.state input.new) (O.state out.new))) }
 {
@@ -104,7 +103,6 @@ fn run_source<'a, H: Host, I: Source, O: Sink>(
     source: &'a [u8],
 ) -> Result<Done, Stop<'a>>
     requires short { length source.now ≤ text_limit }
-    requires from_one { 1 ≤ asked.limit }
     requires limited { asked.limit < 2 ^ 62 }
     requires profile { IfSome asked.profile (λ name. IsTrue ((H.state host.old).may_write name.now)) }
     // However the host stood before the file was read.
@@ -129,7 +127,6 @@ pub(crate) fn run_file<H: Host, I: Source, O: Sink, E: Sink>(
     err: &mut E,
     asked: Asked<'_>,
 ) -> u8
-    requires from_one { 1 ≤ asked.limit }
     requires limited { asked.limit < 2 ^ 62 }
     requires file { IsTrue ((H.state host.old).may_read asked.input.now) }
     requires profile { IfSome asked.profile (λ name. IsTrue ((H.state host.old).may_write name.now)) }
