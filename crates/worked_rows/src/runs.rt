@@ -6,8 +6,8 @@ use std::process::Abort;
 use std::test::Fail;
 use top_call::mcpre;
 
-// Texts of one's own.
-fn owned(alloc: Global, texts: &[&str]) -> Result<Vec<String>, AllocError> {
+/// Texts of one's own.
+pub(crate) fn owned(alloc: Global, texts: &[&str]) -> Result<Vec<String>, AllocError> {
     let mut all = Vec::new(alloc);
     for text in texts {
         all.push(String::from_str(alloc, text)?)?;
