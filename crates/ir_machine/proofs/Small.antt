@@ -1,23 +1,17 @@
 -- The small module that tests run keeps the rules of modules.
-use Rattle.std.proofs.Common.{◌≡◌, ◌≢◌, ◌<◌, ◌+◌, ◌^◌, ◌-◌, ◌⊎◌, inl, inr, ℕ, zero, suc, List, [], ◌∷◌, ◌++◌, Option, None, Some, length, map, take, All, refl, sym, ap, ◌∙◌, subst, arith, lit<, lit≤, append_assoc}
+use Rattle.std.proofs.Common.{◌≡◌, ◌≢◌, ◌<◌, ◌+◌, inr, ℕ, zero, suc, List, [], ◌∷◌, ◌++◌, Some, length, map, take, All, refl, sym, ◌∙◌, subst, arith, lit<, lit≤, append_assoc}
 use Rattle.std.specs.Prelude.{codes, slice_get, AllPairs}
 use Rattle.std.proofs.lemmas.List.Elements.{All-nil, All-cons}
 use Rattle.std.proofs.lemmas.List.Kept.{AllPairs-cons}
 use Rattle.std.proofs.lemmas.List.{append-nil}
-use Rattle.mc_num.specs.declared.op.Width.TheVariants.{I32}
-use Rattle.ir_types.specs.Names.{spelled, IsNameText, IsSpellable, no_number}
-use Rattle.ir_types.specs.Program.{Program}
+use Rattle.ir_types.specs.Names.{spelled, IsSpellable, no_number}
 use Rattle.ir_types.specs.WellFormed.{Scope, scope, Fits, IsNamed, IsBlockIn, IsFunctionIn, IsGlobal, IsWellFormed, putchar, symbols, names}
 use Rattle.ir_types.specs.declared.name.Name.{Name}
 use Rattle.ir_types.specs.declared.name.Name.TheVariants.{Number}
-use Rattle.ir_types.specs.declared.syntax.Operand.TheVariants.{Param, Reg}
+use Rattle.ir_types.specs.declared.syntax.Operand.TheVariants.{Reg}
 use Rattle.ir_types.specs.declared.syntax.Variable.TheVariants.{Local, Global}
-use Rattle.ir_types.specs.declared.syntax.Kind.{Kind}
-use Rattle.ir_types.specs.declared.syntax.Kind.TheVariants.{Load, Store, Call}
+use Rattle.ir_types.specs.declared.syntax.Kind.TheVariants.{Load, Call}
 use Rattle.ir_types.specs.declared.syntax.Instr.{Instr}
-use Rattle.ir_types.specs.declared.syntax.Terminator.TheVariants.{Return}
-use Rattle.ir_types.specs.declared.syntax.Block.{Block}
-use Rattle.ir_types.specs.declared.syntax.Function.{Function}
 use Rattle.ir_machine.specs.Code.{CanStart}
 use Rattle.ir_machine.specs.Small.{gives, keeps, kept_block, kept, main_block, main, letter, small}
 

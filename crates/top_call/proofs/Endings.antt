@@ -1,19 +1,18 @@
 -- What an ending of `print` says of its file.
-use Rattle.std.proofs.Common.{◌≡◌, ◌<◌, ◌≤◌, ℕ, List, length, Ok, Err, Some, IsTrue, ◌⊎◌, inl, inr, refl, sym, ap, subst, ◌∙◌, arith}
+use Rattle.std.proofs.Common.{◌≡◌, ℕ, List, length, Ok, Err, Some, IsTrue, ◌⊎◌, inl, inr, refl, sym, ap, subst, ◌∙◌, arith}
 use Rattle.mc_host.specs.Faults.{Rose}
 use Rattle.mc_host.specs.Host.{HostState, OnlyReads}
 use Rattle.ir_types.specs.Program.{Program}
 use Rattle.ir_printer.specs.Text.{text_of}
 use Rattle.ir_reader.specs.Reading.{Reads, HasOneAnswer}
 use Rattle.top_call.specs.declared.ending.Problem.{Problem}
-use Rattle.top_call.specs.declared.ending.Problem.TheVariants.{TooLong, Text, Grown}
+use Rattle.top_call.specs.declared.ending.Problem.TheVariants.{TooLong, Text, Grown, NoMain}
+use Rattle.top_call.specs.declared.ending.Done.TheVariants.{Written, Returned}
 use Rattle.top_call.specs.declared.ending.Stop.{Stop}
-use Rattle.top_call.specs.declared.ending.Stop.TheVariants.{Usage, Refused, ReadFault, WriteFault, OutOfMemory}
+use Rattle.top_call.specs.declared.ending.Stop.TheVariants.{Usage, Refused, ReadFault, WriteFault, OutOfMemory, Trapped, StepLimit}
 use Rattle.top_call.specs.Ending.{Ending, status_of}
-use Rattle.top_call.specs.Print.{PrintsAs, HasProblem, PrintEnds}
-use Rattle.top_call.specs.Row.{Print}
+use Rattle.top_call.specs.Print.{ReadsAs, PrintsAs, HasProblem, PrintEnds}
 use Rattle.top_call.specs.Stops.{StopsReading}
-use Rattle.top_call.specs.Top.{Ends, IsRefused, IsAccepted}
 
 -- a file that was not read
 pub read_stopped : (input output : List ℕ) (old new : HostState) (stop : Stop) → StopsReading input old new stop → OnlyReads old new → PrintEnds input output old new (Err stop)
@@ -24,45 +23,65 @@ read_stopped input output old new (ReadFault name) stops reads = (stops.0, reads
 read_stopped input output old new OutOfMemory stops reads = λ tells. inl (ap (λ (file : List ℕ → _). file output) reads.files)
 read_stopped input output old new Usage stops reads = absurd stops
 read_stopped input output old new (WriteFault name) stops reads = absurd stops
+read_stopped input output old new (Trapped trap) stops reads = absurd stops
+read_stopped input output old new (StepLimit steps) stops reads = absurd stops
 
 module _ (one : (bytes : List ℕ) → HasOneAnswer bytes) (host : HostState) (input : List ℕ) where
   same_content : (a b : List ℕ) → host.file input ≡ Some a → host.file input ≡ Some b → a ≡ b
   same_content a b e f = let g : Some a ≡ Some b = sym e ∙ f in cc
 
-  -- what prints has no problem
-  not_both : (text : List ℕ) (problem : Problem) → PrintsAs host input text → HasProblem host input problem → ⊥
-  not_both text TooLong prints has =
-      let same = same_content prints.reads.content has.0 prints.reads.holds has.1 in
+  -- a file reads as one program
+  pub same_program : (m n : Program) → ReadsAs host input m → ReadsAs host input n → m ≡ n
+  same_program m n reads other =
+      let same = same_content reads.content other.content reads.holds other.holds in
+      let P : List ℕ → Type 0 = λ l. Reads l m in
+      (one other.content).one_module m n (subst P same reads.reads) other.reads
+
+  -- a file that reads as a program isn't too long
+  pub not_long : (m : Program) → ReadsAs host input m → ¬ (HasProblem host input TooLong)
+  not_long m reads has =
+      let same = same_content reads.content has.0 reads.holds has.1 in
       let l = ap (λ (l : List ℕ). length l) same in
-      absurd (omega (arith, l, prints.reads.short, has.2))
-  not_both text (Text refusal excerpt) prints has =
-      let same = same_content prints.reads.content has.0 prints.reads.holds has.1 in
-      let P : List ℕ → Type 0 = λ l. Reads l prints.program in
-      (one has.0).not_both prints.program refusal (subst P same prints.reads.reads) has.3
+      absurd (omega (arith, l, reads.short, has.2))
+
+  -- and its text isn't refused
+  pub not_refused : (m : Program) (refusal : _) (excerpt : _) → ReadsAs host input m → ¬ (HasProblem host input (Text refusal excerpt))
+  not_refused m refusal excerpt reads has =
+      let same = same_content reads.content has.0 reads.holds has.1 in
+      let P : List ℕ → Type 0 = λ l. Reads l m in
+      (one has.0).not_both m refusal (subst P same reads.reads) has.3
+
+  -- what prints has no problem
+  not_both : (text : List ℕ) (problem : Problem) → PrintsAs host input text → ¬ (HasProblem host input problem)
+  not_both text TooLong prints has = not_long prints.program prints.reads has
+  not_both text (Text refusal excerpt) prints has = not_refused prints.program refusal excerpt prints.reads has
+  not_both text NoMain prints has = absurd has
   not_both text Grown prints has =
-      let same = same_content has.1.content prints.reads.content has.1.holds prints.reads.holds in
-      let P : List ℕ → Type 0 = λ l. Reads l has.0 in
-      let program : has.0 ≡ prints.program = (one prints.reads.content).one_module has.0 prints.program (subst P same has.1.reads) prints.reads.reads in
+      let program : has.0 ≡ prints.program = same_program has.0 prints.program has.1 prints.reads in
       let l = ap (λ (m : Program). length (text_of m)) program in
       let k = ap (λ (l : List ℕ). length l) prints.is_text in
       absurd (omega (arith, l, k, prints.fits, has.2))
 
-pub not_done : (one : (bytes : List ℕ) → HasOneAnswer bytes) (row : _) (old new : HostState) (ending : Ending) → Ends row old new ending → IsTrue old.tells → IsRefused row old
-    → (status_of ending ≡ 1) ⊎ (status_of ending ≡ 3) ⊎ (status_of ending ≡ 5)
-not_done one Rattle.std.proofs.Common.None old new ending ends tells refused = absurd refused
-not_done one (Some (Print input output)) old new (Ok _) ends tells refused = absurd (let done = ends tells in not_both one old input done.0 refused.0 done.1 refused.1)
-not_done one (Some (Print input output)) old new (Err (Refused file problem)) ends tells refused = inl refl
-not_done one (Some (Print input output)) old new (Err (ReadFault name)) ends tells refused = inr (inl refl)
-not_done one (Some (Print input output)) old new (Err (WriteFault name)) ends tells refused = absurd (let done = ends.2 tells in not_both one old input done.0 refused.0 done.1 refused.1)
-not_done one (Some (Print input output)) old new (Err OutOfMemory) ends tells refused = inr (inr refl)
-not_done one (Some (Print input output)) old new (Err Usage) ends tells refused = absurd ends
+  pub print_not_done : (output : List ℕ) (new : HostState) (ending : Ending) → PrintEnds input output host new ending → IsTrue host.tells
+      → (problem : Problem) → HasProblem host input problem → (status_of ending ≡ 1) ⊎ (status_of ending ≡ 3) ⊎ (status_of ending ≡ 5)
+  print_not_done output new (Ok Written) ends tells problem refused = absurd (let done = ends tells in not_both done.0 problem done.1 refused)
+  print_not_done output new (Ok (Returned value)) ends tells problem refused = absurd ends
+  print_not_done output new (Err (Refused file told)) ends tells problem refused = inl refl
+  print_not_done output new (Err (ReadFault name)) ends tells problem refused = inr (inl refl)
+  print_not_done output new (Err (WriteFault name)) ends tells problem refused = absurd (let done = ends.2 tells in not_both done.0 problem done.1 refused)
+  print_not_done output new (Err OutOfMemory) ends tells problem refused = inr (inr refl)
+  print_not_done output new (Err Usage) ends tells problem refused = absurd ends
+  print_not_done output new (Err (Trapped trap)) ends tells problem refused = absurd ends
+  print_not_done output new (Err (StepLimit steps)) ends tells problem refused = absurd ends
 
-pub complete : (one : (bytes : List ℕ) → HasOneAnswer bytes) (row : _) (old new : HostState) (ending : Ending) → Ends row old new ending → IsTrue old.tells → IsAccepted row old
-    → (Rose old.read_faults new.read_faults → ⊥) → (Rose old.write_faults new.write_faults → ⊥) → (status_of ending ≡ 0) ⊎ (status_of ending ≡ 5)
-complete one Rattle.std.proofs.Common.None old new ending ends tells accepted reads writes = absurd accepted
-complete one (Some (Print input output)) old new (Ok _) ends tells accepted reads writes = inl refl
-complete one (Some (Print input output)) old new (Err (Refused file problem)) ends tells accepted reads writes = absurd (not_both one old input accepted.0 problem accepted.1 (ends.2 tells))
-complete one (Some (Print input output)) old new (Err (ReadFault name)) ends tells accepted reads writes = absurd (reads ends.2)
-complete one (Some (Print input output)) old new (Err (WriteFault name)) ends tells accepted reads writes = absurd (writes ends.1)
-complete one (Some (Print input output)) old new (Err OutOfMemory) ends tells accepted reads writes = inr refl
-complete one (Some (Print input output)) old new (Err Usage) ends tells accepted reads writes = absurd ends
+  pub print_complete : (output : List ℕ) (new : HostState) (ending : Ending) → PrintEnds input output host new ending → IsTrue host.tells
+      → (text : List ℕ) → PrintsAs host input text → ¬ (Rose host.read_faults new.read_faults) → ¬ (Rose host.write_faults new.write_faults)
+      → (status_of ending ≡ 0) ⊎ (status_of ending ≡ 5)
+  print_complete output new (Ok done) ends tells text prints reads writes = inl refl
+  print_complete output new (Err (Refused file told)) ends tells text prints reads writes = absurd (not_both text told prints (ends.2 tells))
+  print_complete output new (Err (ReadFault name)) ends tells text prints reads writes = absurd (reads ends.2)
+  print_complete output new (Err (WriteFault name)) ends tells text prints reads writes = absurd (writes ends.1)
+  print_complete output new (Err OutOfMemory) ends tells text prints reads writes = inr refl
+  print_complete output new (Err Usage) ends tells text prints reads writes = absurd ends
+  print_complete output new (Err (Trapped trap)) ends tells text prints reads writes = absurd ends
+  print_complete output new (Err (StepLimit steps)) ends tells text prints reads writes = absurd ends

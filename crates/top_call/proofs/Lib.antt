@@ -1,4 +1,9 @@
 pub mod Endings
 pub mod Excerpts
+pub mod Limits
 mod ReadLemmas
-pub mod WriteLemmas
+pub mod Mains
+pub mod Rows
+pub mod RunEndings
+pub mod RunLemmas
+pub mod Shapes

@@ -1,7 +1,9 @@
+pub mod World
 pub mod Row
 pub mod Command
 pub mod Refused
 pub mod Print
+pub mod Run
 pub mod Stops
 pub mod Ending
 pub mod Lines

@@ -3,8 +3,9 @@ use Rattle.std.specs.Prelude.{◌≡◌, ◌≢◌, ◌⊎◌, ◌^◌, ◌<◌,
 use Rattle.mc_host.specs.Faults.{Rose}
 use Rattle.mc_host.specs.Host.{HostState, IsBeforeOrPart, KeepsRights}
 use Rattle.top_call.specs.declared.ending.Problem.{Problem}
-use Rattle.top_call.specs.declared.ending.Problem.TheVariants.{TooLong, Text, Grown}
-use Rattle.top_call.specs.declared.ending.Stop.TheVariants.{Usage, Refused, ReadFault, WriteFault, OutOfMemory}
+use Rattle.top_call.specs.declared.ending.Problem.TheVariants.{TooLong, Text, Grown, NoMain}
+use Rattle.top_call.specs.declared.ending.Done.TheVariants.{Written}
+use Rattle.top_call.specs.declared.ending.Stop.TheVariants.{Refused, ReadFault, WriteFault, OutOfMemory}
 use Rattle.top_call.specs.Ending.{Ending}
 use Rattle.ir_types.specs.Program.{Program}
 use Rattle.ir_printer.specs.Text.{text_of}
@@ -30,13 +31,14 @@ pub record PrintsAs (host : HostState) (input text : List ℕ) : Type 0 where
   pub fits : length text ≤ text_limit
   pub back : ReadsBack program
 
--- the file has this problem: it is too long, or its text is refused, told with the text's bytes at that place, or the
+-- the file can't be printed, since it has this problem: it is too long, or its text is refused, told with the text's bytes at that place, or the
 -- text of what it reads as would be too long
 abbrev pub HasProblem : HostState → List ℕ → Problem → Type 0
 HasProblem host input TooLong = (content : List ℕ) × (host.file input ≡ Some content) × (text_limit < length content)
 HasProblem host input (Text refusal excerpt) =
     (content : List ℕ) × (host.file input ≡ Some content) × (length content ≤ text_limit)
     × Refuses content refusal × (excerpt.now ≡ excerpt_at content (place_of refusal))
+HasProblem host input NoMain = ⊥
 HasProblem host input Grown = (program : Program) × ReadsAs host input program × (text_limit < length (text_of program))
 
 -- the file that is written is as before, or holds a first part of its text, which may be all of it
@@ -47,7 +49,7 @@ LeavesPart input output old new =
 
 -- the endings of `print`, each with its cause and with what it leaves
 abbrev pub PrintEnds : (input output : List ℕ) → HostState → HostState → Ending → Type 0
-PrintEnds input output old new (Ok _) =
+PrintEnds input output old new (Ok Written) =
     IsTrue old.tells → (text : List ℕ) × PrintsAs old input text × (new.file output ≡ Some text)
 PrintEnds input output old new (Err (Refused file problem)) =
     (file.now ≡ input) × (new.file ≡ old.file) × (IsTrue old.tells → HasProblem old input problem)
@@ -57,7 +59,7 @@ PrintEnds input output old new (Err (WriteFault name)) =
     (name.now ≡ output) × Rose old.write_faults new.write_faults
     × (IsTrue old.tells → (text : List ℕ) × PrintsAs old input text × IsBeforeOrPart output text old new)
 PrintEnds input output old new (Err OutOfMemory) = IsTrue old.tells → LeavesPart input output old new
-PrintEnds input output old new (Err Usage) = ⊥
+PrintEnds input output old new _ = ⊥
 
 -- no file changes but the one that is written, and no count falls
 pub record OnlyPrints (output : List ℕ) (old new : HostState) : Type 0 where

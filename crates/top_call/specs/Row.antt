@@ -1,14 +1,18 @@
 -- What the words after the program's name ask for.
-use Rattle.std.specs.Prelude.{ℕ, List, [], ◌∷◌, if◌then◌else◌, None, Some, codes, map}
+use Rattle.std.specs.Prelude.{ℕ, ◌^◌, ◌&&◌, nat_lt, List, [], ◌∷◌, if◌then◌else◌, None, Some, codes, map, option_map}
 use Rattle.std.specs.declared.option.Option.{Option}
 use Rattle.std.specs.declared.string.String.{String}
 use Rattle.std.specs.declared.alloc.Global.{Global}
+use Rattle.std.specs.Fmt.{decimal}
 use Rattle.std.specs.Str.{bytes_eq}
+use Rattle.std.specs.Str.Parse.{digits_value}
 use Rattle.std.specs.String.{string_bytes}
 
 -- a command with its file names
 pub data Row : Type 0 where
   Print : (input output : List ℕ) → Row
+  -- how many steps at most, the file of the module, and the file of the profile, if one is asked for
+  Run : (limit : ℕ) (input : List ℕ) (profile : Option (List ℕ)) → Row
 
 -- the bytes of each word
 abbrev pub texts : List (String Global) → List (List ℕ)
@@ -19,7 +23,25 @@ abbrev pub print_row : List (List ℕ) → Option Row
 print_row (input ∷ output ∷ []) = Some (Print input output)
 print_row _ = None
 
+-- a number of steps from 1 to 2^62 - 1, in decimal, without sign or leading zeros
+abbrev pub limit_of : List ℕ → Option ℕ
+limit_of word =
+    let n = digits_value 10 word in
+    if nat_lt 0 n && nat_lt n (2 ^ 62) && bytes_eq (decimal n) word then Some n else None
+
+-- `-` asks for no profile
+abbrev pub profile_of : List ℕ → Option (List ℕ)
+profile_of word = if bytes_eq word (codes "-") then None else Some word
+
+-- `run N IN PROF`
+abbrev pub run_row : List (List ℕ) → Option Row
+run_row (limit ∷ input ∷ profile ∷ []) = option_map (λ n. Run n input (profile_of profile)) (limit_of limit)
+run_row _ = None
+
 -- the row that the words fit, if any
 abbrev pub row_of : List (List ℕ) → Option Row
 row_of [] = None
-row_of (command ∷ words) = if bytes_eq command (codes "print") then print_row words else None
+row_of (command ∷ words) =
+    if bytes_eq command (codes "print") then print_row words
+    else (if bytes_eq command (codes "run") then run_row words
+    else None)

@@ -1,8 +1,10 @@
 //! The words after the program's name.
-ghost use Rattle.std.specs.Prelude.{◌≡◌};
+ghost use Rattle.std.specs.Prelude.{◌≡◌, IfSome};
 ghost use Rattle.std.specs.Option.{option_map};
-ghost use Rattle.top_call.specs.Row.{row_of, print_row, texts};
-ghost use Rattle.top_call.specs.Command.{row_of_command};
+ghost use Rattle.top_call.specs.Row.{row_of, print_row, run_row, limit_of, profile_of, texts};
+ghost use Rattle.top_call.specs.Command.{row_of_command, IsWithinSteps};
+
+use crate::limit::limit_of;
 
 /// A command with its file names.
 #[derive(Clone, Copy, Debug, PartialEq, Eq)]
@@ -14,6 +16,19 @@ pub(crate) enum Command<'a> {
         /// The file that is written.
         output: &'a str,
     },
+    /// Runs `main` of a file.
+    Run(Asked<'a>),
+}
+
+/// What is asked of a run.
+#[derive(Clone, Copy, Debug, PartialEq, Eq)]
+pub(crate) struct Asked<'a> {
+    /// How many steps are made at most: from 1 to 2^62 - 1.
+    pub(crate) limit: u64,
+    /// The file that is read.
+    pub(crate) input: &'a str,
+    /// The file that the profile is written to, if one is asked for.
+    pub(crate) profile: Option<&'a str>,
 }
 
 fn print_command(words: &[String]) -> Option<Command<'_>>
@@ -25,13 +40,36 @@ fn print_command(words: &[String]) -> Option<Command<'_>>
     }
 }
 
+/// The file for the profile; `-` asks for none.
+fn profile_of(word: &str) -> Option<&str>
+    ensures { option_map (λ name. name.now) result ≡ profile_of word.now }
+{
+    if word == "-" { None } else { Some(word) }
+}
+
+fn run_command(words: &[String]) -> Option<Command<'_>>
+    ensures row { option_map row_of_command result ≡ run_row (texts words.now) }
+    ensures limits { IfSome result IsWithinSteps }
+{
+    match words {
+        [limit, input, profile] => Some(Command::Run(Asked {
+            limit: limit_of(limit)?,
+            input,
+            profile: profile_of(profile),
+        })),
+        _ => None,
+    }
+}
+
 /// The command that the words fit, if any.
 pub(crate) fn command_of(words: &[String]) -> Option<Command<'_>>
-    ensures { option_map row_of_command result ≡ row_of (texts words.now) }
+    ensures row { option_map row_of_command result ≡ row_of (texts words.now) }
+    ensures limits { IfSome result IsWithinSteps }
 {
     let (command, words) = words.split_first()?;
     match command.as_str() {
         "print" => print_command(words),
+        "run" => run_command(words),
         _ => None,
     }
 }

@@ -3,6 +3,7 @@ ghost use Rattle.std.specs.Prelude.{◌≡◌};
 ghost use Rattle.top_call.specs.Ending.{status_of};
 
 use ir_reader::Refusal;
+use mc_num::{Trap, Width};
 
 /// Why a file is refused.
 #[derive(Clone, Copy, Debug, PartialEq, Eq)]
@@ -18,6 +19,17 @@ pub enum Problem<'a> {
     },
     /// The text for the file that is written would have more than 2^26 bytes.
     Grown,
+    /// It has no defined function `main` without parameters.
+    NoMain,
+}
+
+/// What a call did.
+#[derive(Clone, Copy, Debug, PartialEq, Eq)]
+pub enum Done {
+    /// It wrote the file.
+    Written,
+    /// `main` returned this value with its width, or none.
+    Returned(Option<(Width, u64)>),
 }
 
 /// Why a call stopped before it was done.
@@ -34,28 +46,34 @@ pub enum Stop<'a> {
     },
     /// A file could not be read.
     ReadFault {
-        /// The file's name.
+        /// The file's name, or `standard input`.
         name: &'a str,
     },
     /// A file could not be written.
     WriteFault {
-        /// The file's name.
+        /// The file's name, or `standard output`.
         name: &'a str,
     },
     /// An allocation was refused.
     OutOfMemory,
+    /// The run came to a trap.
+    Trapped(Trap),
+    /// So many steps were made, and none ended the run.
+    StepLimit(u64),
 }
 
 /// The status of the process.
-pub(crate) fn status_of(ending: &Result<(), Stop<'_>>) -> u8
+pub(crate) fn status_of(ending: &Result<Done, Stop<'_>>) -> u8
     ensures { result ≡ status_of ending.now }
 {
     match ending {
-        Ok(()) => 0,
+        Ok(_) => 0,
         Err(Stop::Refused { .. }) => 1,
         Err(Stop::Usage) => 2,
         Err(Stop::ReadFault { .. }) => 3,
         Err(Stop::WriteFault { .. }) => 4,
         Err(Stop::OutOfMemory) => 5,
+        Err(Stop::Trapped(_)) => 7,
+        Err(Stop::StepLimit(_)) => 8,
     }
 }

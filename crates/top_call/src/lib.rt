@@ -3,10 +3,12 @@
 
 mod command;
 mod ending;
+mod limit;
 mod lines;
 mod print;
 mod refused;
+mod run;
 mod top;
 
-pub use ending::{Problem, Stop};
+pub use ending::{Done, Problem, Stop};
 pub use top::mcpre;

@@ -1,16 +1,19 @@
 //! The line of an ending, put in pieces.
-ghost use Rattle.std.specs.Prelude.{◌≡◌, ◌++◌, codes, Err};
+ghost use Rattle.std.specs.Prelude.{◌≡◌, ◌++◌, codes, Ok, Err};
+ghost use Rattle.std.specs.Fmt.{decimal};
 ghost use Rattle.mc_host.specs.Streams.{Puts};
-ghost use Rattle.top_call.specs.Ending.{status_of, line_of, refusal_text};
+ghost use Rattle.top_call.specs.Ending.{status_of, line_of, refusal_text, returned_text, trap_text};
 ghost use Rattle.top_call.specs.Lines.{Gains};
 ghost use Rattle.top_call.specs.Refused.{spaced, cause_text, place_text, refused_text};
 
-use crate::ending::{Problem, Stop, status_of};
+use crate::ending::{Done, Problem, Stop, status_of};
 use crate::refused::{advice_text, hex_text, place_of, rule_text, space_before};
+use ir_printer::constant_to;
 use ir_reader::Refusal;
 use ir_types::span::Span;
 use itoa::Buffer;
 use mc_host::{Failed, Sink, put_all};
+use mc_num::{Trap, Width};
 
 /// Puts a code with its name, and the excerpt.
 fn put_named<S: Sink>(sink: &mut S, name: &[u8], excerpt: &[u8]) -> Result<(), Failed>
@@ -68,6 +71,7 @@ fn put_problem<S: Sink>(sink: &mut S, problem: Problem<'_>) -> Result<(), Failed
         Problem::TooLong => sink.put(b": E1 TooLong\n"),
         Problem::Text { refusal, excerpt } => put_refused(sink, refusal, excerpt),
         Problem::Grown => sink.put(b": E17 Grown\n"),
+        Problem::NoMain => sink.put(b": E18 NoMain\n"),
     }
 }
 
@@ -78,6 +82,45 @@ fn put_file_refused<S: Sink>(sink: &mut S, file: &str, problem: Problem<'_>) -> 
     sink.put(b"mcpre: ")?;
     sink.put(file.as_bytes())?;
     put_problem(sink, problem)
+}
+
+/// Puts the line of a run that trapped.
+fn put_trap<S: Sink>(sink: &mut S, trap: Trap) -> Result<(), Failed>
+    ensures { Puts (codes "mcpre: trap " ++ (trap_text trap ++ codes "\n")) result (S.state sink.old) (S.state sink.new) }
+{
+    match trap {
+        Trap::DivZero => put_all(sink, &[b"mcpre: trap ", b"DivZero", b"\n"]),
+        Trap::DivOverflow => put_all(sink, &[b"mcpre: trap ", b"DivOverflow", b"\n"]),
+        Trap::Unreachable => put_all(sink, &[b"mcpre: trap ", b"Unreachable", b"\n"]),
+    }
+}
+
+/// Puts the line of a run that made as many steps as it may.
+fn put_step_limit<S: Sink>(sink: &mut S, limit: u64) -> Result<(), Failed>
+    ensures { Puts (codes "mcpre: step limit " ++ (decimal limit ++ codes "\n")) result (S.state sink.old) (S.state sink.new) }
+{
+    let mut digits = Buffer::new();
+    put_all(
+        sink,
+        &[
+            b"mcpre: step limit ",
+            digits.format(limit).as_bytes(),
+            b"\n",
+        ],
+    )
+}
+
+/// Puts a space and the value that `main` returned, or nothing where it gave none.
+fn put_returned<S: Sink>(sink: &mut S, value: Option<(Width, u64)>) -> Result<(), Failed>
+    ensures { Puts (returned_text value) result (S.state sink.old) (S.state sink.new) }
+{
+    match value {
+        Some((width, value)) => {
+            sink.put(b" ")?;
+            constant_to(width, value, sink)
+        }
+        None => Ok(()),
+    }
 }
 
 /// Puts the line of a call that stopped.
@@ -94,21 +137,37 @@ fn put_stop<S: Sink>(sink: &mut S, stop: Stop<'_>) -> Result<(), Failed>
             put_all(sink, &[b"mcpre: write fault: ", name.as_bytes(), b"\n"])
         }
         Stop::OutOfMemory => put_all(sink, &[b"mcpre: out of memory\n"]),
+        Stop::Trapped(trap) => put_trap(sink, trap),
+        Stop::StepLimit(limit) => put_step_limit(sink, limit),
+    }
+}
+
+/// Puts the line of a call that is done.
+fn put_done<S: Sink>(sink: &mut S, done: Done) -> Result<(), Failed>
+    ensures { Puts (line_of (Ok done)) result (S.state sink.old) (S.state sink.new) }
+{
+    match done {
+        Done::Written => Ok(()),
+        Done::Returned(value) => {
+            sink.put(b"mcpre: main returned")?;
+            put_returned(sink, value)?;
+            sink.put(b"\n")
+        }
     }
 }
 
 /// Puts the line of an ending.
-fn put_line<S: Sink>(sink: &mut S, ending: Result<(), Stop<'_>>) -> Result<(), Failed>
+fn put_line<S: Sink>(sink: &mut S, ending: Result<Done, Stop<'_>>) -> Result<(), Failed>
     ensures { Puts (line_of ending.entry) result (S.state sink.old) (S.state sink.new) }
 {
     match ending {
-        Ok(()) => Ok(()),
+        Ok(done) => put_done(sink, done),
         Err(stop) => put_stop(sink, stop),
     }
 }
 
 /// Puts the line of an ending, and gives its status. A sink that fails changes no status.
-pub(crate) fn finish<S: Sink>(sink: &mut S, ending: Result<(), Stop<'_>>) -> u8
+pub(crate) fn finish<S: Sink>(sink: &mut S, ending: Result<Done, Stop<'_>>) -> u8
     ensures status { result ≡ status_of ending.entry }
     ensures line { Gains (line_of ending.entry) (S.state sink.old) (S.state sink.new) }
 {

@@ -7,7 +7,7 @@ ghost use Rattle.top_call.specs.Stops.{StopsReading, StopsParsing, StopsPrinting
 ghost use Rattle.ir_printer.specs.Text.{text_of};
 ghost use Rattle.ir_reader.specs.Reading.{Reads, ReadsBack};
 
-use crate::ending::{Problem, Stop};
+use crate::ending::{Done, Problem, Stop};
 use crate::lines::finish;
 use crate::refused::{excerpt_at, place_of};
 use ir_reader::{ReadError, read};
@@ -19,7 +19,11 @@ use std::alloc::Global;
 const TEXT_LIMIT: usize = 1 << 26;
 
 /// Reads a file that has at most as many bytes as a text may have.
-fn read_short<'a, H: Host>(alloc: Global, host: &mut H, name: &'a str) -> Result<Vec<u8>, Stop<'a>>
+pub(crate) fn read_short<'a, H: Host>(
+    alloc: Global,
+    host: &mut H,
+    name: &'a str,
+) -> Result<Vec<u8>, Stop<'a>>
     requires { IsTrue ((H.state host.old).may_read name.now) }
     ensures read { IfOk result (λ bytes. IsTrue (H.state host.old).tells → (H.state host.old).file name.now ≡ Some bytes.items) }
     ensures short { IfOk result (λ bytes. length bytes.items ≤ text_limit) }
@@ -38,7 +42,11 @@ fn read_short<'a, H: Host>(alloc: Global, host: &mut H, name: &'a str) -> Result
 }
 
 /// The module that the bytes of a file spell.
-fn parsed<'a>(alloc: Global, file: &'a str, source: &'a [u8]) -> Result<Module<'a>, Stop<'a>>
+pub(crate) fn parsed<'a>(
+    alloc: Global,
+    file: &'a str,
+    source: &'a [u8],
+) -> Result<Module<'a>, Stop<'a>>
     requires { length source.now ≤ text_limit }
     ensures read { IfOk result (Reads source.now) }
     ensures back { IfOk result ReadsBack }
@@ -74,7 +82,7 @@ fn printed<'a>(alloc: Global, file: &'a str, program: &Module<'_>) -> Result<Vec
 }
 
 /// Writes a file.
-fn write_text<'a, H: Host>(
+pub(crate) fn write_text<'a, H: Host>(
     alloc: Global,
     host: &mut H,
     name: &'a str,
@@ -100,7 +108,7 @@ fn print_source<'a, H: Host>(
     input: &'a str,
     output: &'a str,
     source: &'a [u8],
-) -> Result<(), Stop<'a>>
+) -> Result<Done, Stop<'a>>
     requires short { length source.now ≤ text_limit }
     requires output { IsTrue ((H.state host.old).may_write output.now) }
     // However the host stood before IN was read.
@@ -110,7 +118,8 @@ fn print_source<'a, H: Host>(
 {
     let module = parsed(alloc, input, source)?;
     let text = printed(alloc, input, &module)?;
-    write_text(alloc, host, output, &text)
+    write_text(alloc, host, output, &text)?;
+    Ok(Done::Written)
 }
 
 /// Writes the text of the file `input` to the file `output`, puts the line of its ending, and gives its status. What

@@ -1,47 +1,67 @@
 //! The top call.
 ghost use Rattle.std.specs.Prelude.{◌≡◌, ◌⊎◌, ◌↔◌, ◌≤◌, ℕ, List, IsTrue, IsNone};
-ghost use Rattle.mc_host.specs.Faults.{Rose};
 ghost use Rattle.top_call.specs.Row.{row_of, texts};
 ghost use Rattle.top_call.specs.Lines.{Answers};
-ghost use Rattle.top_call.specs.Top.{MayDo, Ends, Writes, IsRefused, IsAccepted, IsDone, IsPartlyDone};
+ghost use Rattle.top_call.specs.World.{world};
+ghost use Rattle.top_call.specs.Top.{MayDo, Ends, Writes, IsRefused, IsAccepted, IsTrapped, IsAtLimit, IsDone, IsPartlyDone, HasReadFault, HasWriteFault, IsQuiet, HasMoved};
 
 use crate::command::{Command, command_of};
 use crate::ending::Stop;
 use crate::lines::finish;
 use crate::print::print_file;
+use crate::run::run_file;
 use ir_reader::one_answer;
 use mc_host::{Host, Sink, Source};
 use std::alloc::Global;
 
 /// Does what the words ask for, with the line on `err`, and gives the status.
-fn answer<H: Host, E: Sink>(alloc: Global, words: &[String], host: &mut H, err: &mut E) -> u8
+fn answer<H: Host, I: Source, O: Sink, E: Sink>(
+    alloc: Global,
+    words: &[String],
+    host: &mut H,
+    input: &mut I,
+    out: &mut O,
+    err: &mut E,
+) -> u8
     requires { MayDo (row_of (texts words.now)) (H.state host.old) }
-    ensures ends { Answers (E.state err.old) (E.state err.new) result (Ends (row_of (texts words.now)) (H.state host.old) (H.state host.new)) }
+    ensures ends { Answers (E.state err.old) (E.state err.new) result (Ends (row_of (texts words.now))
+        (world (H.state host.old) (I.state input.old) (O.state out.old)) (world (H.state host.new) (I.state input.new) (O.state out.new))) }
     ensures files { (name : List ℕ) → ¬ (Writes (row_of (texts words.now)) name) → (H.state host.new).file name ≡ (H.state host.old).file name }
 {
     match command_of(words) {
         None => finish(err, Err(Stop::Usage)),
-        Some(Command::Print { input, output }) => print_file(alloc, host, err, input, output),
+        Some(
+            Command::Print {
+                input: file,
+                output,
+            },
+        ) => print_file(alloc, host, err, file, output),
+        Some(Command::Run(asked)) => run_file(alloc, host, input, out, err, asked),
     }
 }
 
 /// Does what the words ask for, puts the line of its ending on `err`, and gives the status.
 ///
-/// `words` are the words after the program's name. The one row is `print IN OUT`, which writes the canonical text of
-/// the file IN to the file OUT; the two may be the same. The host lets the row read IN and write OUT, and is asked for
-/// no other file. Nothing is written before the whole text stands.
+/// `words` are the words after the program's name. `print IN OUT` writes the canonical text of the file IN to the file
+/// OUT; the two may be the same. `run N IN PROF` runs `main` of IN for at most N steps, from 1 to 2^62 - 1, over `input`
+/// and `out`, and where it returns writes its profile to PROF, unless PROF is `-`. The host lets the row read IN and
+/// write OUT or PROF, and is asked for no other file. Nothing is written to a file before the whole text stands.
 ///
 /// | Status | Comes | Line on `err` |
 /// |---|---|---|
-/// | 0 | OUT holds the text | none |
+/// | 0 | `print`: OUT holds the text | none |
+/// | 0 | `run`: `main` returned V, and PROF holds the profile | `mcpre: main returned V`, with neither space nor V for `void` |
 /// | 1 | IN has more than 2^26 bytes | `mcpre: IN: E1 TooLong` |
 /// | 1 | a byte of IN starts no token | `mcpre: IN:LINE: E2 BadByte 0xNN` |
 /// | 1 | the grammar stops, or a rule is broken, at a token of IN or at its end | `mcpre: IN:LINE: CODE NAME EXCERPT` |
-/// | 1 | the text has more than 2^26 bytes | `mcpre: IN: E17 Grown` |
+/// | 1 | `print`: the text has more than 2^26 bytes | `mcpre: IN: E17 Grown` |
+/// | 1 | `run`: there is no defined `main` without parameters | `mcpre: IN: E18 NoMain` |
 /// | 2 | the words fit no row | `mcpre: usage` |
-/// | 3 | the host's count of reads that failed rose | `mcpre: read fault: IN` |
-/// | 4 | the host's count of writes that failed rose | `mcpre: write fault: OUT` |
+/// | 3 | the host's count of reads that failed rose, or that of `input` | `mcpre: read fault: IN`, or `standard input` |
+/// | 4 | the host's count of writes that failed rose, or that of `out` | `mcpre: write fault: OUT`, PROF, or `standard output` |
 /// | 5 | an allocation was refused | `mcpre: out of memory` |
+/// | 7 | the run traps within N steps | `mcpre: trap NAME` |
+/// | 8 | N steps ended nothing | `mcpre: step limit N` |
 ///
 /// Each line ends with a newline and is put in pieces, without memory; a failing `err` changes no status.
 pub fn mcpre<H: Host, I: Source, O: Sink, E: Sink>(
@@ -55,39 +75,47 @@ pub fn mcpre<H: Host, I: Source, O: Sink, E: Sink>(
     requires { MayDo (row_of (texts words.now)) (H.state host.old) }
 
     // Each row ends in one of its ways, each with its cause; the status and the line on `err` are of that ending.
-    ensures answers { Answers (E.state err.old) (E.state err.new) result (Ends (row_of (texts words.now)) (H.state host.old) (H.state host.new)) }
-    ensures statuses { result ≤ 5 }
+    ensures answers { Answers (E.state err.old) (E.state err.new) result (Ends (row_of (texts words.now)) (world (H.state host.old) (I.state input.old) (O.state out.old)) (world (H.state host.new) (I.state input.new) (O.state out.new))) }
+    ensures statuses { result ≤ 8 }
 
     // The words alone decide whether there is a row.
     ensures usage { (result ≡ 2) ↔ IsNone (row_of (texts words.now)) }
 
-    // A fault is told only where a count rose in this call.
-    ensures read_fault { result ≡ 3 → Rose (H.state host.old).read_faults (H.state host.new).read_faults }
-    ensures write_fault { result ≡ 4 → Rose (H.state host.old).write_faults (H.state host.new).write_faults }
+    // A fault is told only where a count that the row may raise rose in this call.
+    ensures read_fault { result ≡ 3 → HasReadFault (row_of (texts words.now)) (world (H.state host.old) (I.state input.old) (O.state out.old)) (world (H.state host.new) (I.state input.new) (O.state out.new)) }
+    ensures write_fault { result ≡ 4 → HasWriteFault (row_of (texts words.now)) (world (H.state host.old) (I.state input.old) (O.state out.old)) (world (H.state host.new) (I.state input.new) (O.state out.new)) }
 
     // A refusal is told exactly where a file that the row reads has a problem; only a fault or want of memory hides it.
     ensures refused { IsTrue (H.state host.old).tells → result ≡ 1 → IsRefused (row_of (texts words.now)) (H.state host.old) }
     ensures not_done { IsTrue (H.state host.old).tells → IsRefused (row_of (texts words.now)) (H.state host.old) →
         (result ≡ 1) ⊎ (result ≡ 3) ⊎ (result ≡ 5) }
 
-    // Where the files are accepted and no count rose, the row is done, if there was memory.
-    ensures complete { IsTrue (H.state host.old).tells → IsAccepted (row_of (texts words.now)) (H.state host.old) →
-        ¬ (Rose (H.state host.old).read_faults (H.state host.new).read_faults) →
-        ¬ (Rose (H.state host.old).write_faults (H.state host.new).write_faults) → (result ≡ 0) ⊎ (result ≡ 5) }
+    // A trap, or the end of the steps, is told exactly where the run comes to it; only a fault or want of memory hides it.
+    ensures trapped { IsTrue (H.state host.old).tells → IsTrue (I.state input.old).tells → result ≡ 7 → IsTrapped (row_of (texts words.now)) (world (H.state host.old) (I.state input.old) (O.state out.old)) }
+    ensures trap { IsTrue (H.state host.old).tells → IsTrue (I.state input.old).tells → IsTrapped (row_of (texts words.now)) (world (H.state host.old) (I.state input.old) (O.state out.old)) →
+        (result ≡ 7) ⊎ (result ≡ 3) ⊎ (result ≡ 4) ⊎ (result ≡ 5) }
+    ensures limited { IsTrue (H.state host.old).tells → IsTrue (I.state input.old).tells → result ≡ 8 → IsAtLimit (row_of (texts words.now)) (world (H.state host.old) (I.state input.old) (O.state out.old)) }
+    ensures limit { IsTrue (H.state host.old).tells → IsTrue (I.state input.old).tells → IsAtLimit (row_of (texts words.now)) (world (H.state host.old) (I.state input.old) (O.state out.old)) →
+        (result ≡ 8) ⊎ (result ≡ 3) ⊎ (result ≡ 4) ⊎ (result ≡ 5) }
+
+    // Where the files are accepted, the run returns and no count rose, the row is done, if there was memory.
+    ensures complete { IsTrue (H.state host.old).tells → IsAccepted (row_of (texts words.now)) (world (H.state host.old) (I.state input.old) (O.state out.old)) →
+        ¬ (HasReadFault (row_of (texts words.now)) (world (H.state host.old) (I.state input.old) (O.state out.old)) (world (H.state host.new) (I.state input.new) (O.state out.new))) →
+        ¬ (HasWriteFault (row_of (texts words.now)) (world (H.state host.old) (I.state input.old) (O.state out.old)) (world (H.state host.new) (I.state input.new) (O.state out.new))) → (result ≡ 0) ⊎ (result ≡ 5) }
 
     // What each status leaves.
-    ensures done { IsTrue (H.state host.old).tells → result ≡ 0 → IsDone (row_of (texts words.now)) (H.state host.old) (H.state host.new) }
-    ensures untouched { (result ≡ 1) ⊎ (result ≡ 2) ⊎ (result ≡ 3) → (H.state host.new).file ≡ (H.state host.old).file }
-    ensures partly { IsTrue (H.state host.old).tells → (result ≡ 4) ⊎ (result ≡ 5) →
-        IsPartlyDone (row_of (texts words.now)) (H.state host.old) (H.state host.new) }
+    ensures done { IsTrue (H.state host.old).tells → result ≡ 0 → IsDone (row_of (texts words.now)) (world (H.state host.old) (I.state input.old) (O.state out.old)) (world (H.state host.new) (I.state input.new) (O.state out.new)) }
+    ensures untouched { (result ≡ 1) ⊎ (result ≡ 2) ⊎ (result ≡ 3) ⊎ (result ≡ 7) ⊎ (result ≡ 8) → (H.state host.new).file ≡ (H.state host.old).file }
+    ensures partly { IsTrue (H.state host.old).tells → (result ≡ 4) ⊎ (result ≡ 5) → IsPartlyDone (row_of (texts words.now)) (world (H.state host.old) (I.state input.old) (O.state out.old)) (world (H.state host.new) (I.state input.new) (O.state out.new)) }
 
     // No other file changes.
     ensures files { (name : List ℕ) → ¬ (Writes (row_of (texts words.now)) name) → (H.state host.new).file name ≡ (H.state host.old).file name }
 
-    // What no row uses stays.
-    ensures input { I.state input.new ≡ I.state input.old }
-    ensures out { O.state out.new ≡ O.state out.old }
+    // What is taken and put: nothing where the row is quiet, else what the run so far takes and puts.
+    ensures input { IsQuiet (row_of (texts words.now)) (world (H.state host.old) (I.state input.old) (O.state out.old)) (world (H.state host.new) (I.state input.new) (O.state out.new)) result → I.state input.new ≡ I.state input.old }
+    ensures out { IsQuiet (row_of (texts words.now)) (world (H.state host.old) (I.state input.old) (O.state out.old)) (world (H.state host.new) (I.state input.new) (O.state out.new)) result → O.state out.new ≡ O.state out.old }
+    ensures moved { IsTrue (H.state host.old).tells → HasMoved (row_of (texts words.now)) (world (H.state host.old) (I.state input.old) (O.state out.old)) (world (H.state host.new) (I.state input.new) (O.state out.new)) }
 {
     one_answer();
-    answer(alloc, words, host, err)
+    answer(alloc, words, host, input, out, err)
 }

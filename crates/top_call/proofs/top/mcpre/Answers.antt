@@ -1,9 +1,33 @@
 use Rattle.top_call.specs.Row.{row_of, texts}
-use Rattle.top_call.proofs.Endings.{not_done, complete}
+use Rattle.top_call.proofs.Rows.{not_done, complete, traps, ends_nothing, still, trapped, limited, done, partly}
 use Rattle.top_call.proofs.top.mcpre.Goals as goal
 
 pub returns-clause-not_done : goal.returns-clause-not_done
-returns-clause-not_done g c = λ tells refused. rw c.answer.ensures.ends.status_is (not_done c.one_answer.ensures (row_of (texts c.args.words.now)) _ _ c.answer.ensures.ends.ending c.answer.ensures.ends.ends tells refused)
+returns-clause-not_done g c = λ tells refused. let e = c.answer.ensures.ends in rw e.status_is (not_done c.one_answer.ensures _ _ e.ending (row_of (texts c.args.words.now)) e.ends tells refused)
+
+pub returns-clause-trapped : goal.returns-clause-trapped
+returns-clause-trapped g c = λ tells told seven. let e = c.answer.ensures.ends in trapped _ _ (row_of (texts c.args.words.now)) e.ending e.ends _ e.status_is tells told seven
+
+pub returns-clause-trap : goal.returns-clause-trap
+returns-clause-trap g c = λ tells told trap. let e = c.answer.ensures.ends in rw e.status_is (traps c.one_answer.ensures _ _ e.ending (row_of (texts c.args.words.now)) e.ends tells told trap)
+
+pub returns-clause-limited : goal.returns-clause-limited
+returns-clause-limited g c = λ tells told eight. let e = c.answer.ensures.ends in limited _ _ (row_of (texts c.args.words.now)) e.ending e.ends _ e.status_is tells told eight
+
+pub returns-clause-limit : goal.returns-clause-limit
+returns-clause-limit g c = λ tells told stands. let e = c.answer.ensures.ends in rw e.status_is (ends_nothing c.one_answer.ensures _ _ e.ending (row_of (texts c.args.words.now)) e.ends tells told stands)
 
 pub returns-clause-complete : goal.returns-clause-complete
-returns-clause-complete g c = λ tells accepted reads writes. rw c.answer.ensures.ends.status_is (complete c.one_answer.ensures (row_of (texts c.args.words.now)) _ _ c.answer.ensures.ends.ending c.answer.ensures.ends.ends tells accepted reads writes)
+returns-clause-complete g c = λ tells accepted reads writes. let e = c.answer.ensures.ends in rw e.status_is (complete c.one_answer.ensures _ _ e.ending (row_of (texts c.args.words.now)) e.ends tells accepted reads writes)
+
+pub returns-clause-done : goal.returns-clause-done
+returns-clause-done g c = λ tells zero. let e = c.answer.ensures.ends in done _ _ (row_of (texts c.args.words.now)) e.ending e.ends _ e.status_is tells zero
+
+pub returns-clause-partly : goal.returns-clause-partly
+returns-clause-partly g c = λ tells status. let e = c.answer.ensures.ends in partly _ _ (row_of (texts c.args.words.now)) e.ending e.ends _ e.status_is tells status
+
+pub returns-clause-input : goal.returns-clause-input
+returns-clause-input g c = λ quiet. let e = c.answer.ensures.ends in (still c.one_answer.ensures _ _ e.ending (row_of (texts c.args.words.now)) e.ends _ e.status_is quiet).input
+
+pub returns-clause-out : goal.returns-clause-out
+returns-clause-out g c = λ quiet. let e = c.answer.ensures.ends in (still c.one_answer.ensures _ _ e.ending (row_of (texts c.args.words.now)) e.ends _ e.status_is quiet).out

@@ -1,0 +1,8 @@
+//! The blocks of a function as a graph: the slots that lead from one to another, and the blocks that paths meet.
+#![tactic(auto)]
+
+mod reaching;
+mod slots;
+
+pub use reaching::reachable;
+pub use slots::{slot_count, slot_target, slots_len, target};

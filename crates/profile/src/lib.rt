@@ -1,0 +1,15 @@
+//! Profiles: counts of a module, their text, and their balance.
+#![tactic(auto)]
+
+pub mod counts;
+pub mod lines;
+mod numbers;
+mod printing;
+mod reading;
+mod shapes;
+mod sums;
+
+pub use counts::{FnCounts, Profile};
+pub use printing::print_profile;
+pub use reading::{ProfileError, read_profile};
+pub use sums::{balanced, count_of_block};

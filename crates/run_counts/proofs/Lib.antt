@@ -1,0 +1,13 @@
+pub mod Accepted
+pub mod Balanced
+pub mod Conserved
+pub mod Exits
+pub mod Keys
+pub mod Placed
+pub mod Reaching
+pub mod Runs
+pub mod Splits
+pub mod Tallied
+pub mod Totals
+pub mod Walked
+pub mod Weighed

@@ -1,0 +1,155 @@
+-- What an ending of a row says.
+use Rattle.std.proofs.Common.{◌≡◌, ◌<◌, ℕ, List, Option, None, Some, Ok, Err, IsTrue, ◌⊎◌, inl, inr, refl, sym, ap, subst, ◌∙◌, arith}
+use Rattle.mc_num.specs.declared.op.Trap.{Trap}
+use Rattle.ir_reader.specs.Reading.{HasOneAnswer}
+use Rattle.top_call.specs.declared.ending.Done.{Done}
+use Rattle.top_call.specs.declared.ending.Done.TheVariants.{Written, Returned}
+use Rattle.top_call.specs.declared.ending.Stop.TheVariants.{Usage, Refused, ReadFault, WriteFault, OutOfMemory, Trapped, StepLimit}
+use Rattle.top_call.specs.Ending.{Ending, status_of}
+use Rattle.top_call.specs.Row.{Row, Print, Run}
+use Rattle.top_call.specs.World.{World, AreStill}
+use Rattle.top_call.specs.Top.{Ends, IsRefused, IsAccepted, IsTrapped, IsAtLimit, IsDone, IsPartlyDone, HasReadFault, HasWriteFault, IsQuiet, HasMoved}
+use Rattle.top_call.proofs.Endings.{print_not_done, print_complete}
+use Rattle.top_call.proofs.RunEndings.{run_not_done, run_complete, run_traps, run_ends_nothing, run_trapped, run_limited, run_moved, run_still}
+
+-- the ending of a status
+
+trapped_at : (ending : Ending) → status_of ending ≡ 7 → (trap : Trap) × (ending ≡ Err (Trapped trap))
+trapped_at (Ok done) e = absurd (omega (arith, e))
+trapped_at (Err Usage) e = absurd (omega (arith, e))
+trapped_at (Err (Refused file problem)) e = absurd (omega (arith, e))
+trapped_at (Err (ReadFault name)) e = absurd (omega (arith, e))
+trapped_at (Err (WriteFault name)) e = absurd (omega (arith, e))
+trapped_at (Err OutOfMemory) e = absurd (omega (arith, e))
+trapped_at (Err (Trapped trap)) e = (trap, refl)
+trapped_at (Err (StepLimit steps)) e = absurd (omega (arith, e))
+
+limited_at : (ending : Ending) → status_of ending ≡ 8 → (steps : ℕ) × (ending ≡ Err (StepLimit steps))
+limited_at (Ok done) e = absurd (omega (arith, e))
+limited_at (Err Usage) e = absurd (omega (arith, e))
+limited_at (Err (Refused file problem)) e = absurd (omega (arith, e))
+limited_at (Err (ReadFault name)) e = absurd (omega (arith, e))
+limited_at (Err (WriteFault name)) e = absurd (omega (arith, e))
+limited_at (Err OutOfMemory) e = absurd (omega (arith, e))
+limited_at (Err (Trapped trap)) e = absurd (omega (arith, e))
+limited_at (Err (StepLimit steps)) e = (steps, refl)
+
+done_at : (ending : Ending) → status_of ending ≡ 0 → (done : Done) × (ending ≡ Ok done)
+done_at (Ok done) e = (done, refl)
+done_at (Err Usage) e = absurd (omega (arith, e))
+done_at (Err (Refused file problem)) e = absurd (omega (arith, e))
+done_at (Err (ReadFault name)) e = absurd (omega (arith, e))
+done_at (Err (WriteFault name)) e = absurd (omega (arith, e))
+done_at (Err OutOfMemory) e = absurd (omega (arith, e))
+done_at (Err (Trapped trap)) e = absurd (omega (arith, e))
+done_at (Err (StepLimit steps)) e = absurd (omega (arith, e))
+
+neither : (n : ℕ) → (n < 4) ⊎ (5 < n) → (n ≡ 4) ⊎ (n ≡ 5) → ⊥
+neither n out (inl e) = absurd (grind (arith, out, e))
+neither n out (inr e) = absurd (grind (arith, out, e))
+
+module _ (one : (bytes : List ℕ) → HasOneAnswer bytes) (old new : World) (ending : Ending) where
+  pub not_done : (row : Option Row) → Ends row old new ending → IsTrue old.host.tells → IsRefused row old.host
+      → (status_of ending ≡ 1) ⊎ (status_of ending ≡ 3) ⊎ (status_of ending ≡ 5)
+  not_done None ends tells refused = absurd refused
+  not_done (Some (Print input output)) ends tells refused = print_not_done one old.host input output new.host ending ends.0 tells refused.0 refused.1
+  not_done (Some (Run limit input profile)) ends tells refused = run_not_done one limit input profile old new ending ends tells refused.0 refused.1
+
+  pub complete : (row : Option Row) → Ends row old new ending → IsTrue old.host.tells → IsAccepted row old
+      → ¬ (HasReadFault row old new) → ¬ (HasWriteFault row old new) → (status_of ending ≡ 0) ⊎ (status_of ending ≡ 5)
+  complete None ends tells accepted reads writes = absurd accepted
+  complete (Some (Print input output)) ends tells accepted reads writes =
+      print_complete one old.host input output new.host ending ends.0 tells accepted.0 accepted.1 reads writes
+  complete (Some (Run limit input profile)) ends tells accepted reads writes =
+      run_complete one limit input profile old new ending ends tells accepted.0 accepted.1 reads writes
+
+  pub traps : (row : Option Row) → Ends row old new ending → IsTrue old.host.tells → IsTrue old.input.tells → IsTrapped row old
+      → (status_of ending ≡ 7) ⊎ (status_of ending ≡ 3) ⊎ (status_of ending ≡ 4) ⊎ (status_of ending ≡ 5)
+  traps None ends tells told trap = absurd trap
+  traps (Some (Print input output)) ends tells told trap = absurd trap
+  traps (Some (Run limit input profile)) ends tells told trap = run_traps one limit input profile old new ending ends tells told trap
+
+  pub ends_nothing : (row : Option Row) → Ends row old new ending → IsTrue old.host.tells → IsTrue old.input.tells → IsAtLimit row old
+      → (status_of ending ≡ 8) ⊎ (status_of ending ≡ 3) ⊎ (status_of ending ≡ 4) ⊎ (status_of ending ≡ 5)
+  ends_nothing None ends tells told stands = absurd stands
+  ends_nothing (Some (Print input output)) ends tells told stands = absurd stands
+  ends_nothing (Some (Run limit input profile)) ends tells told stands = run_ends_nothing one limit input profile old new ending ends tells told stands
+
+  pub moved : (row : Option Row) → Ends row old new ending → IsTrue old.host.tells → HasMoved row old new
+  moved None ends tells = record { input = ap (λ (w : World). w.input) ends.1; out = ap (λ (w : World). w.out) ends.1 }
+  moved (Some (Print input output)) ends tells = ends.1
+  moved (Some (Run limit input profile)) ends tells = run_moved one limit input profile old new ending ends tells
+
+  pub still : (row : Option Row) → Ends row old new ending → (status : ℕ) → status ≡ status_of ending → IsQuiet row old new status → AreStill old new
+  still None ends status is quiet = record { input = ap (λ (w : World). w.input) ends.1; out = ap (λ (w : World). w.out) ends.1 }
+  still (Some (Print input output)) ends status is quiet = ends.1
+  still (Some (Run limit input profile)) ends status is quiet = run_still one limit input profile old new ending ends (by quiet)
+    where
+      by : IsQuiet (Some (Run limit input profile)) old new status → IsQuiet (Some (Run limit input profile)) old new (status_of ending)
+      by (inl e) = inl (sym is ∙ e)
+      by (inr (inl both)) = inr (inl (sym is ∙ both.0, both.1))
+      by (inr (inr both)) = inr (inr both)
+
+-- ---- the cause of a status
+
+module _ (old new : World) where
+  trapped_so : (row : Option Row) (trap : Trap) → Ends row old new (Err (Trapped trap)) → IsTrue old.host.tells → IsTrue old.input.tells → IsTrapped row old
+  trapped_so None trap ends tells told = absurd (let e = ap status_of ends.0 in omega (arith, e))
+  trapped_so (Some (Print input output)) trap ends tells told = absurd ends.0
+  trapped_so (Some (Run limit input profile)) trap ends tells told = run_trapped limit input profile old new trap ends tells told
+
+  limited_so : (row : Option Row) (steps : ℕ) → Ends row old new (Err (StepLimit steps)) → IsTrue old.host.tells → IsTrue old.input.tells → IsAtLimit row old
+  limited_so None steps ends tells told = absurd (let e = ap status_of ends.0 in omega (arith, e))
+  limited_so (Some (Print input output)) steps ends tells told = absurd ends.0
+  limited_so (Some (Run limit input profile)) steps ends tells told = run_limited limit input profile old new steps ends tells told
+
+  done_so : (row : Option Row) (done : Done) → Ends row old new (Ok done) → IsTrue old.host.tells → IsDone row old new
+  done_so None done ends tells = absurd (let e = ap status_of ends.0 in omega (arith, e))
+  done_so (Some (Print input output)) Written ends tells = ends.0 tells
+  done_so (Some (Print input output)) (Returned value) ends tells = absurd ends.0
+  done_so (Some (Run limit input profile)) Written ends tells = absurd ends
+  done_so (Some (Run limit input profile)) (Returned value) ends tells = (value, ends tells)
+
+  -- a write failed, or memory ran out
+  unwritten_so : (row : Option Row) (name : _) → Ends row old new (Err (WriteFault name)) → IsTrue old.host.tells → IsPartlyDone row old new
+  unwritten_so None name ends tells = absurd (let e = ap status_of ends.0 in omega (arith, e))
+  unwritten_so (Some (Print input output)) name ends tells = inr (ends.0.2 tells)
+  unwritten_so (Some (Run limit input profile)) name (inl fault) tells = inl fault.1
+  unwritten_so (Some (Run limit input profile)) name (inr fault) tells = inr (name.now, (fault.2 tells).0, fault.0, (fault.2 tells).1)
+
+  memory_so : (row : Option Row) → Ends row old new (Err OutOfMemory) → IsTrue old.host.tells → IsPartlyDone row old new
+  memory_so None ends tells = absurd (let e = ap status_of ends.0 in omega (arith, e))
+  memory_so (Some (Print input output)) ends tells = ends.0 tells
+  memory_so (Some (Run limit input profile)) ends tells = (ends tells).1
+
+  pub trapped : (row : Option Row) (ending : Ending) → Ends row old new ending → (status : ℕ) → status ≡ status_of ending → IsTrue old.host.tells → IsTrue old.input.tells → status ≡ 7 → IsTrapped row old
+  trapped row ending ends status is tells told seven =
+      let at = trapped_at ending (sym is ∙ seven) in
+      let P : Ending → Type 0 = λ ending. Ends row old new ending in
+      trapped_so row at.0 (subst P at.1 ends) tells told
+
+  pub limited : (row : Option Row) (ending : Ending) → Ends row old new ending → (status : ℕ) → status ≡ status_of ending → IsTrue old.host.tells → IsTrue old.input.tells → status ≡ 8 → IsAtLimit row old
+  limited row ending ends status is tells told eight =
+      let at = limited_at ending (sym is ∙ eight) in
+      let P : Ending → Type 0 = λ ending. Ends row old new ending in
+      limited_so row at.0 (subst P at.1 ends) tells told
+
+  pub done : (row : Option Row) (ending : Ending) → Ends row old new ending → (status : ℕ) → status ≡ status_of ending → IsTrue old.host.tells → status ≡ 0 → IsDone row old new
+  done row ending ends status is tells zero =
+      let at = done_at ending (sym is ∙ zero) in
+      let P : Ending → Type 0 = λ ending. Ends row old new ending in
+      done_so row at.0 (subst P at.1 ends) tells
+
+  cut : (row : Option Row) (ending : Ending) → Ends row old new ending → IsTrue old.host.tells → (status_of ending ≡ 4) ⊎ (status_of ending ≡ 5) → IsPartlyDone row old new
+  cut row (Err (WriteFault name)) ends tells status = unwritten_so row name ends tells
+  cut row (Err OutOfMemory) ends tells status = memory_so row ends tells
+  cut row (Ok done) ends tells status = absurd (neither 0 (inl (omega arith)) status)
+  cut row (Err Usage) ends tells status = absurd (neither 2 (inl (omega arith)) status)
+  cut row (Err (Refused file problem)) ends tells status = absurd (neither 1 (inl (omega arith)) status)
+  cut row (Err (ReadFault name)) ends tells status = absurd (neither 3 (inl (omega arith)) status)
+  cut row (Err (Trapped trap)) ends tells status = absurd (neither 7 (inr (omega arith)) status)
+  cut row (Err (StepLimit steps)) ends tells status = absurd (neither 8 (inr (omega arith)) status)
+
+  pub partly : (row : Option Row) (ending : Ending) → Ends row old new ending → (status : ℕ) → status ≡ status_of ending → IsTrue old.host.tells → (status ≡ 4) ⊎ (status ≡ 5) → IsPartlyDone row old new
+  partly row ending ends status is tells (inl four) = cut row ending ends tells (inl (sym is ∙ four))
+  partly row ending ends status is tells (inr five) = cut row ending ends tells (inr (sym is ∙ five))
