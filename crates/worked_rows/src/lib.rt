@@ -6,8 +6,6 @@ mod accepted;
 #[cfg(test)]
 mod limits;
 #[cfg(test)]
-mod main_runs;
-#[cfg(test)]
 mod prefixes;
 #[cfg(test)]
 mod refusals;

@@ -175,11 +175,11 @@ const RETURNS: &[Row] = &[
     Row {
         steps: "16",
         program: ADDS,
-        input: "AB",
+        input: "ABC",
         status: 0,
         line: "mcpre: main returned 131\n",
         shown: b"",
-        left: "",
+        left: "C",
         profile: "mcpre-profile 1\nfunc 0 1\nblock 0 1 0\nblock 1 1\nblock 2 0\nblock 3\n",
     },
     Row {
@@ -461,6 +461,7 @@ const USAGE: &[&[&str]] = &[
     &["run", "+1", "a.ll", "-"],
     &["run", "-1", "a.ll", "-"],
     &["run", "1 ", "a.ll", "-"],
+    &["run", "1x", "a.ll", "-"],
     &["run", "1e3", "a.ll", "-"],
     &["run", "4611686018427387904", "a.ll", "-"],
     &["run", "18446744073709551617", "a.ll", "-"],
