@@ -172,9 +172,21 @@ const REFUSED: &[(&[u8], &str, ProfileError)] = &[
         "mcpre-profile 1\nfunc 0 100\nblock 0 90 10\nblock 1 90\nblock 2 10\nblock 3\nblock 4\n",
         ProfileError::Shape(7),
     ),
-    (RETURNS, "mcpre-profile 1\nfunc 0 1\nblock 0 1\n", ProfileError::Shape(3)),
-    (RETURNS, "mcpre-profile 1\nfunc 0 1\nblock 0\nfunc 1 1\n", ProfileError::Shape(4)),
-    (NOTHING, "mcpre-profile 1\nfunc 0 1\n", ProfileError::Shape(2)),
+    (
+        RETURNS,
+        "mcpre-profile 1\nfunc 0 1\nblock 0 1\n",
+        ProfileError::Shape(3),
+    ),
+    (
+        RETURNS,
+        "mcpre-profile 1\nfunc 0 1\nblock 0\nfunc 1 1\n",
+        ProfileError::Shape(4),
+    ),
+    (
+        NOTHING,
+        "mcpre-profile 1\nfunc 0 1\n",
+        ProfileError::Shape(2),
+    ),
     (
         ARMS,
         "mcpre-profile 1\nfunc 0 100\nblock 0 90 10\nblock 1 90\nblock 2 9\nblock 3\n",
@@ -322,7 +334,11 @@ fn how_often_blocks_are_entered(rt: HostRuntime) -> Result<(), Fail> {
         let program = read(rt.alloc(), program)?;
         let profile = read_profile(rt.alloc(), text.as_bytes(), &program)?;
         for (block, count) in *counts {
-            assert_eq!(rt; count_in_first(&program, &profile, *block), Some(*count), "of {text}");
+            assert_eq!(rt;
+                count_in_first(&program, &profile, *block),
+                Some(*count),
+                "of {text}"
+            );
         }
     }
     Ok(())

@@ -433,7 +433,10 @@ const REFUSED: &[(&str, &str)] = &[
     ("", "mcpre: a.ll: E18 NoMain\n"),
     ("@main = global i32 0", "mcpre: a.ll: E18 NoMain\n"),
     ("define void @f(){unreachable}", "mcpre: a.ll: E18 NoMain\n"),
-    ("define i32 @main(i32){ret i32 0}", "mcpre: a.ll: E18 NoMain\n"),
+    (
+        "define i32 @main(i32){ret i32 0}",
+        "mcpre: a.ll: E18 NoMain\n",
+    ),
     (
         "define void @Main(){ret void} define void @\"main \"(){ret void}",
         "mcpre: a.ll: E18 NoMain\n",
@@ -465,7 +468,12 @@ const USAGE: &[&[&str]] = &[
     &["run", "1e3", "a.ll", "-"],
     &["run", "4611686018427387904", "a.ll", "-"],
     &["run", "18446744073709551617", "a.ll", "-"],
-    &["run", "100000000000000000000000000000000000001", "a.ll", "-"],
+    &[
+        "run",
+        "100000000000000000000000000000000000001",
+        "a.ll",
+        "-",
+    ],
     &["Run", "5", "a.ll", "-"],
     &["run", "a.ll", "5", "-"],
 ];
@@ -639,10 +647,20 @@ fn expect_row(
 ) -> Result<(), Fail> {
     let words = ["run", row.steps, "a.ll", "a.prof"];
     let mut ended = end(alloc, &words, row.program, row.input, NONE_FAILS, 100)?;
-    assert_eq!(rt; ended.err.written(), row.line.as_bytes(), "of {}", row.program);
+    assert_eq!(rt;
+        ended.err.written(),
+        row.line.as_bytes(),
+        "of {}",
+        row.program
+    );
     assert_eq!(rt; ended.status, row.status, "of {}", row.program);
     assert_eq!(rt; ended.out.written(), row.shown, "of {}", row.program);
-    assert_eq!(rt; ended.host.file("a.prof"), profile.map(str::as_bytes), "of {}", row.program);
+    assert_eq!(rt;
+        ended.host.file("a.prof"),
+        profile.map(str::as_bytes),
+        "of {}",
+        row.program
+    );
     assert_eq!(rt; ended.host.file("a.ll"), Some(row.program.as_bytes()));
     expect_left(rt, &mut ended.input, row.left, row.program);
     Ok(())
@@ -669,7 +687,12 @@ fn a_run_without_a_profile_writes_no_file(rt: HostRuntime) -> Result<(), Fail> {
     for row in RETURNS {
         let words = ["run", row.steps, "a.ll", "-"];
         let ended = end(rt.alloc(), &words, row.program, row.input, NONE_FAILS, 100)?;
-        assert_eq!(rt; ended.err.written(), row.line.as_bytes(), "of {}", row.program);
+        assert_eq!(rt;
+            ended.err.written(),
+            row.line.as_bytes(),
+            "of {}",
+            row.program
+        );
         assert_eq!(rt; ended.status, 0, "of {}", row.program);
         assert_eq!(rt; ended.out.written(), row.shown, "of {}", row.program);
         assert!(rt; ended.host.file("-").is_none(), "of {}", row.program);
@@ -692,7 +715,11 @@ fn expect_quiet(
     assert!(rt; ended.out.written().is_empty(), "of {line}");
     assert!(rt; ended.host.file("a.prof").is_none(), "of {line}");
     assert!(rt; ended.host.file("-").is_none(), "of {line}");
-    assert_eq!(rt; ended.host.file("a.ll"), Some(program.as_bytes()), "of {line}");
+    assert_eq!(rt;
+        ended.host.file("a.ll"),
+        Some(program.as_bytes()),
+        "of {line}"
+    );
     expect_left(rt, &mut ended.input, "in", line);
     Ok(())
 }
