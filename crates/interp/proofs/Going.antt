@@ -14,11 +14,17 @@ use Rattle.machines.specs.Acts.{Running, Frames, turn, got}
 use Rattle.machines.specs.Meaning.{State, state, End, machine_of, effect_of, followed, taken}
 use Rattle.machines.proofs.Lockstep.{after-add}
 use Rattle.ir_machine.specs.declared.frame.Frame.{Frame}
-use Rattle.ir_machine.specs.Step.{Globals, frames_of}
+use Rattle.ir_machine.specs.Step.{Globals, frames_of, first_frame, written}
 use Rattle.ir_machine.specs.Same.{start}
-use Rattle.ir_machine.specs.Code.{MachineState, event_of, after_step, is_wants, is_end, byte_value}
+use Rattle.ir_machine.specs.Code.{MachineState, started, running_of, event_of, after_step, is_wants, is_end, byte_value}
 use Rattle.run_counts.specs.Counted.{run_after}
-use Rattle.run_counts.proofs.Walked.{Walked, walk_turns, walk_gets}
+use Rattle.run_counts.proofs.Runs.{Every}
+use Rattle.run_counts.proofs.Reaching.{IsFound, Reaches, turn_found}
+use Rattle.run_counts.proofs.Placed.{at, target_in, IsSlotIn, IsDefinedIn, IsEndIn, module_stands}
+use Rattle.run_counts.proofs.Balanced.{has_slot}
+use Rattle.run_counts.proofs.Totals.{some_function}
+use Rattle.run_counts.proofs.Walked.{Walked, walk_starts, walk_turns, walk_gets}
+use Rattle.interp.specs.Tallies.{HasSlot, HasFunction, IsEventOf}
 use Rattle.interp.specs.Run.{bytes_taken, bytes_shown}
 use Rattle.interp.specs.Follows.{Follows, Stays, given}
 use Rattle.interp.specs.TallyOf.{IsTally}
@@ -255,3 +261,52 @@ module _ (m : Program) (rules : IsWellFormed m) (main : ℕ) (f : Function) (ste
   goes_on (Shows byte) is machine' source' sink' follows = goes_shown byte is machine' source' sink' follows
   goes_on (Returned value) is machine' source' sink' follows = absurd follows
   goes_on (Trapped trap) is machine' source' sink' follows = absurd follows
+
+-- before the first step
+pub going_starts : (m : Program) (rules : IsWellFormed m) (main : ℕ) (f : Function) (machine : MachineState) (tally : Tally) (source : SourceState) (sink : SinkState) → IsDefinedIn m main → machine ≡ started m main f → IsTally m main [] tally → Going m rules main f 0 machine tally source source sink sink
+going_starts m rules main f machine tally source sink defined is counted = record {
+  running = running_of (first_frame main f []) [] (written m);
+  machine_is = is;
+  events = [];
+  few = omega arith;
+  counted = counted;
+  walked = walk_starts m rules main defined (running_of (first_frame main f []) [] (written m)) refl refl;
+  stands = λ tells. record {
+    transcript = [];
+    at = refl;
+    events_are = refl;
+    taken_are = refl;
+    put = λ told. sym (append-nil sink.written);
+  };
+  source_faults = omega arith;
+  source_tells = refl;
+  sink_faults = omega arith;
+  sink_tells = refl;
+}
+
+-- ---- events are those of the module
+
+anywhere : (m : Program) → Reaches (target_in m) (IsSlotIn m) (IsDefinedIn m) (λ p. Unit {0})
+anywhere m = record { entry = λ f defined. tt; leads = λ f b s slot reached. tt }
+
+all_anywhere : (below : List Frame) → Every (λ f. Unit {0}) below
+all_anywhere [] = tt
+all_anywhere (f ∷ below) = (tt, all_anywhere below)
+
+known_is : (m : Program) (e : Event) → IsFound (IsSlotIn m) (IsDefinedIn m) (λ p. Unit {0}) e → IsEventOf m e
+known_is m (Took i b s) known =
+    let f = some_function m i b s known.0 in
+    let slot = has_slot m i f.0 f.1 i b s known.0 refl in
+    record { function = f.0; function_there = f.1; block = slot.0; block_there = slot.1; inside = slot.2 }
+known_is m (Entered i) known = record { function = known.0; there = known.1; defined = known.2 }
+known_is m Went known = tt
+known_is m Wants known = tt
+known_is m (Shows byte) known = tt
+known_is m (Returned value) known = tt
+known_is m (Trapped trap) known = tt
+
+pub event_known : (m : Program) (running : Running Frame Globals) (event : Event) → (turn (frames_of m) running).event ≡ event → IsEventOf m event
+event_known m running event is =
+    subst (IsEventOf m) is
+    (known_is m (turn (frames_of m) running).event
+    (turn_found (frames_of m) at (target_in m) (IsSlotIn m) (IsDefinedIn m) (IsEndIn m) (module_stands m) (λ p. Unit {0}) (anywhere m) running (tt, all_anywhere running.below)).0)

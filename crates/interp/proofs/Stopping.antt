@@ -290,3 +290,7 @@ module _ (m : Program) (main : ℕ) (f : Function) (is_main : main_of m ≡ Some
     stops Wants is stop.ReadFault follows = read_failed is follows.0 follows.1 follows.2
     stops (Shows byte) is stop.WriteFault follows = write_failed byte is follows.0 follows.1 follows.2
     stops e is s follows = absurd follows
+
+-- an answer that is an error has a reason
+pub for_any_err : {m : Program} {limit : ℕ} {source source' : SourceState} {sink sink' : SinkState} (answer : Result RunEnd NoMemory) (reason : NoMemory) → answer ≡ Err reason → ((reason : NoMemory) → Ran m limit source source' sink sink' (Err reason)) → Ran m limit source source' sink sink' answer
+for_any_err {m} {limit} {source} {source'} {sink} {sink'} answer reason is ran = subst (Ran m limit source source' sink sink') (sym is) (ran reason)
