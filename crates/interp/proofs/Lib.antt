@@ -2,3 +2,4 @@ pub mod Adding
 pub mod Going
 pub mod Mains
 pub mod Making
+pub mod Stopping

@@ -4,3 +4,6 @@ pub mod Widths
 pub mod Outlines
 pub mod Functions
 pub mod Printed
+pub mod Summed
+pub mod Balancing
+pub mod Walks

@@ -1,6 +1,7 @@
 //! Profiles: counts of a module, their text, and their balance.
 #![tactic(auto)]
 
+mod checking;
 pub mod counts;
 pub mod lines;
 mod numbers;

@@ -30,6 +30,17 @@ use Rattle.run_counts.proofs.Balanced.{has_slot}
 abbrev all : ℕ × ℕ → Bool
 all k = true
 
+-- a function with a slot
+pub some_function : (m : Program) (i b s : ℕ) → IsSlotIn m (slot_at i b s) → (f : Function) × (slice_get m.functions i ≡ Some f) × (is_defined f.blocks ≡ true)
+some_function m i b s slot = found (slice_get m.functions i) refl where
+  defined_at : (blocks : List Block) → slice_get blocks b ≡ Some slot.0 → is_defined blocks ≡ true
+  defined_at [] e = cc
+  defined_at (x ∷ xs) e = refl
+
+  found : (o : Option Function) → slice_get m.functions i ≡ o → (f : Function) × (slice_get m.functions i ≡ Some f) × (is_defined f.blocks ≡ true)
+  found None e = let wrong = sym (ap (λ o. slice_get (blocks_of o) b) e) ∙ slot.1 in cc
+  found (Some f) e = (f, e, defined_at f.blocks (sym (ap (λ o. slice_get (blocks_of o) b) e) ∙ slot.1))
+
 module _ (m : Program) (main : ℕ) (first : IsDefinedIn m main) where
   abbrev here : List (ℕ × Function)
   here = defined_from 0 m.functions
@@ -66,19 +77,9 @@ module _ (m : Program) (main : ℕ) (first : IsDefinedIn m main) where
           let b = added-none (keys_from 0 x.1.blocks) x.0 all e (λ k. no_taking x.0 k.0 k.1) in
           omega (arith, a, b)) here
 
-  is_some_function : (i b s : ℕ) → IsSlotIn m (slot_at i b s) → (f : Function) × (slice_get m.functions i ≡ Some f) × (is_defined f.blocks ≡ true)
-  is_some_function i b s slot = found (slice_get m.functions i) refl where
-    defined_at : (blocks : List Block) → slice_get blocks b ≡ Some slot.0 → is_defined blocks ≡ true
-    defined_at [] e = cc
-    defined_at (x ∷ xs) e = refl
-
-    found : (o : Option Function) → slice_get m.functions i ≡ o → (f : Function) × (slice_get m.functions i ≡ Some f) × (is_defined f.blocks ≡ true)
-    found None e = let wrong = sym (ap (λ o. slice_get (blocks_of o) b) e) ∙ slot.1 in cc
-    found (Some f) e = (f, e, defined_at f.blocks (sym (ap (λ o. slice_get (blocks_of o) b) e) ∙ slot.1))
-
   adds_moves : (e : Event) → IsFound (IsSlotIn m) (IsDefinedIn m) (λ p. Unit {0}) e → sum_by (adds e) here ≡ moves e
   adds_moves (Took g b s) known =
-      let f = is_some_function g b s known.0 in
+      let f = some_function m g b s known.0 in
       let one : ℕ × Function → ℕ = λ x. sum_by (λ k. cond (is_key b s k) 1 0) (keys_from 0 x.1.blocks) in
       let same : (x : ℕ × Function) → adds (Took g b s) x ≡ cond (g == x.0) (one x) 0 = λ x. (let a = added-took (keys_from 0 x.1.blocks) x.0 all g b s in omega arith) in
       let whole = sum_by-same (adds (Took g b s)) (λ x. cond (g == x.0) (one x) 0) same here in
