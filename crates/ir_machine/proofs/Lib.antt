@@ -5,3 +5,4 @@ mod Fitting
 mod Small
 pub mod Taken
 mod Waiting
+mod Widths

@@ -1,59 +1,19 @@
--- A small module: putchar shows what a function gives back of a global.
-use Rattle.std.proofs.Common.{◌≡◌, ◌≢◌, ◌<◌, ◌+◌, ◌^◌, ◌-◌, ◌⊎◌, inl, inr, ℕ, zero, suc, List, [], ◌∷◌, ◌++◌, Option, None, Some, length, map, take, All, refl, sym, ap, ◌∙◌, subst, arith, lit<, lit≤, append_assoc}
+-- The small module that tests run keeps the rules of modules.
+use Rattle.std.proofs.Common.{◌≡◌, ◌≢◌, ◌<◌, ◌+◌, inr, ℕ, zero, suc, List, [], ◌∷◌, ◌++◌, Some, length, map, take, All, refl, sym, ◌∙◌, subst, arith, lit<, lit≤, append_assoc}
 use Rattle.std.specs.Prelude.{codes, slice_get, AllPairs}
 use Rattle.std.proofs.lemmas.List.Elements.{All-nil, All-cons}
 use Rattle.std.proofs.lemmas.List.Kept.{AllPairs-cons}
 use Rattle.std.proofs.lemmas.List.{append-nil}
-use Rattle.mc_num.specs.declared.op.Width.TheVariants.{I32}
-use Rattle.ir_types.specs.Names.{spelled, IsNameText, IsSpellable, no_number}
-use Rattle.ir_types.specs.Program.{Program}
+use Rattle.ir_types.specs.Names.{spelled, IsSpellable, no_number}
 use Rattle.ir_types.specs.WellFormed.{Scope, scope, Fits, IsNamed, IsBlockIn, IsFunctionIn, IsGlobal, IsWellFormed, putchar, symbols, names}
 use Rattle.ir_types.specs.declared.name.Name.{Name}
 use Rattle.ir_types.specs.declared.name.Name.TheVariants.{Number}
-use Rattle.ir_types.specs.declared.syntax.Operand.TheVariants.{Param, Reg}
+use Rattle.ir_types.specs.declared.syntax.Operand.TheVariants.{Reg}
 use Rattle.ir_types.specs.declared.syntax.Variable.TheVariants.{Local, Global}
-use Rattle.ir_types.specs.declared.syntax.Kind.{Kind}
-use Rattle.ir_types.specs.declared.syntax.Kind.TheVariants.{Load, Store, Call}
+use Rattle.ir_types.specs.declared.syntax.Kind.TheVariants.{Load, Call}
 use Rattle.ir_types.specs.declared.syntax.Instr.{Instr}
-use Rattle.ir_types.specs.declared.syntax.Terminator.TheVariants.{Return}
-use Rattle.ir_types.specs.declared.syntax.Block.{Block}
-use Rattle.ir_types.specs.declared.syntax.Function.{Function}
-use Rattle.ir_types.specs.declared.syntax.Global as globals
-
-abbrev pub gives : ℕ → Kind → Instr
-gives n kind = record { result = Some (Number n); kind = kind }
-
-abbrev pub keeps : Instr
-keeps = record { result = None; kind = Store (Param 0) (Local 0) }
-
--- a function that keeps its argument in a variable
-abbrev pub kept_block : Block
-kept_block = record {
-  name = Number 1;
-  instrs = keeps ∷ gives 3 (Load (Local 0)) ∷ [];
-  term = Return (Some (Reg 1));
-}
-
-abbrev pub kept : Function
-kept = record { name = codes "f"; ret = Some I32; params = (I32, Number 0) ∷ []; vars = (I32, Number 2) ∷ []; blocks = kept_block ∷ [] }
-
-abbrev pub main_block : Block
-main_block = record {
-  name = Number 0;
-  instrs = gives 1 (Load (Global 0)) ∷ gives 2 (Call 1 (Reg 0 ∷ [])) ∷ gives 3 (Call 0 (Reg 1 ∷ [])) ∷ [];
-  term = Return (Some (Reg 2));
-}
-
-abbrev pub main : Function
-main = record { name = codes "main"; ret = Some I32; params = []; vars = []; blocks = main_block ∷ [] }
-
-abbrev pub letter : globals.Global
-letter = record { name = codes "g"; width = I32; value = 321 }
-
-abbrev pub small : Program
-small = record { globals = letter ∷ []; functions = putchar ∷ kept ∷ main ∷ [] }
-
--- ---- it keeps the rules
+use Rattle.ir_machine.specs.Code.{CanStart}
+use Rattle.ir_machine.specs.Small.{gives, keeps, kept_block, kept, main_block, main, letter, small}
 
 number_is : (a b : ℕ) → Number a ≡ Number b → a ≡ b
 number_is a b e = cc
@@ -172,3 +132,6 @@ small_is = record {
   few_globals = lit< tt;
   few_functions = lit< tt;
 }
+
+pub small_starts : CanStart small 2
+small_starts = record { function = main; there = refl; defined = λ e. cc; no_params = refl }

@@ -1,8 +1,7 @@
 //! A small module, run step by step.
 ghost use Rattle.std.specs.Prelude.{◌≡◌, ◌∷◌, [], false, IfOk};
 ghost use Rattle.ir_types.specs.WellFormed.{putchar};
-ghost use Rattle.ir_types.specs.declared.syntax.Operand as operand;
-ghost use Rattle.ir_machine.proofs.Small.{gives, kept, main, small};
+ghost use Rattle.ir_machine.specs.Small.{gives, kept, main, small};
 
 use crate::{Event, Machine};
 use ir_types::items::Items;
@@ -98,6 +97,7 @@ fn main(alloc: Global) -> Result<Function<'static>, AllocError>
     })
 }
 
+#[tactic(auto, using(crate::proofs::Small::small_is))]
 fn module(alloc: Global) -> Result<Module<'static>, AllocError>
     ensures { IfOk result (λ m. m ≡ small) }
 {
