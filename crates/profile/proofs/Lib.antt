@@ -1,2 +1,11 @@
 pub mod Fronts
 pub mod Runs
+pub mod Widths
+pub mod Outlines
+pub mod Functions
+pub mod Printed
+pub mod Summed
+pub mod Balancing
+pub mod Walks
+pub mod Read
+pub mod Answered

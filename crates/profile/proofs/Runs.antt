@@ -1,16 +1,19 @@
 -- Numbers one after another, and the lines that they make.
-use Rattle.std.proofs.Common.{◌≡◌, ◌≢◌, ℕ, ◌+◌, ◌^◌, ◌<◌, ◌≤◌, Bool, true, false, List, [], ◌∷◌, ◌++◌, Option, None, Some, length, get_or, refl, sym, ap, subst, ◌∙◌, arith, codes, append_assoc}
-use Rattle.std.specs.Prelude.{All}
+use Rattle.std.proofs.Common.{◌≡◌, ◌≢◌, ℕ, ◌+◌, ◌^◌, ◌<◌, ◌≤◌, Bool, true, false, List, [], ◌∷◌, ◌++◌, Option, None, Some, length, get_or, refl, sym, ap, subst, ◌∙◌, arith, codes, append_assoc, Ok, Err, IfOk}
+use Rattle.std.specs.Prelude.{All, MatchOption}
+use Rattle.std.specs.declared.result.Result.{Result}
+use Rattle.std.specs.List.{flat_map}
+use denote.Ref.{Bor}
 use Rattle.std.specs.Fmt.{decimal}
-use Rattle.std.proofs.lemmas.List.{append_cancel_left, length-append}
-use Rattle.std.proofs.lemmas.List.Elements.{All-nil, All-cons, All-head, All-tail}
+use Rattle.std.proofs.lemmas.List.{append_cancel_left, length-append, append-nil, flat_map_more, nil_from_length}
+use Rattle.std.proofs.lemmas.List.Elements.{All-nil, All-cons, All-head, All-tail, All-push}
 use Rattle.std.proofs.lemmas.Option.{none-some, same_Some}
 use Rattle.ir_types.specs.Bytes.{heads, is_digit}
 use Rattle.profile.specs.declared.lines.Line.{Line}
 use Rattle.profile.specs.declared.lines.Line.TheVariants.{Function, Block}
 use Rattle.profile.specs.Forms.{front_number, Run, AddsBehind, NoneBehind, AddsLine}
-use Rattle.profile.specs.Reading.{Fits, BeginsWithLine}
-use Rattle.profile.specs.Text.{spaced, word, numbers, line_text}
+use Rattle.profile.specs.Reading.{Fits, BeginsWithLine, HasLines, StopsBehind}
+use Rattle.profile.specs.Text.{spaced, word, numbers, line_text, first_line, text_of_lines}
 use Rattle.profile.proofs.Fronts.{front_decimal, front_is, front_feed}
 
 -- ---- runs of numbers
@@ -69,8 +72,8 @@ run_is bytes (n ∷ ns) rest h =
 
 -- ---- lines
 
-parts : (l : Line) (rest : List ℕ) → line_text l ++ rest ≡ word l ++ (spaced (numbers l) ++ 10 ∷ rest)
-parts l rest = append_assoc (word l) (spaced (numbers l) ++ codes "\n") rest ∙ ap (λ k. word l ++ k) (append_assoc (spaced (numbers l)) (codes "\n") rest)
+pub line_parts : (l : Line) (rest : List ℕ) → line_text l ++ rest ≡ word l ++ (spaced (numbers l) ++ 10 ∷ rest)
+line_parts l rest = append_assoc (word l) (spaced (numbers l) ++ codes "\n") rest ∙ ap (λ k. word l ++ k) (append_assoc (spaced (numbers l)) (codes "\n") rest)
 
 pub line_run : (l : Line) (rest : List ℕ) → Fits l → Run (spaced (numbers l) ++ 10 ∷ rest) (numbers l) (10 ∷ rest)
 line_run l rest fits = run_of (numbers l) (10 ∷ rest) fits refl
@@ -81,14 +84,14 @@ adds_line w bytes mid old new rest e a =
     record {
       line = a.line;
       fits = r.small;
-      text = e ∙ ap (λ k. k ++ mid) (sym a.is_word) ∙ ap (λ k. word a.line ++ k) r.text ∙ sym (parts a.line rest);
+      text = e ∙ ap (λ k. k ++ mid) (sym a.is_word) ∙ ap (λ k. word a.line ++ k) r.text ∙ sym (line_parts a.line rest);
       added = a.added;
     }
 
 pub no_line : (bytes : List ℕ) → ((l : Line) → Fits l → (rest : List ℕ) → bytes ≡ word l ++ (spaced (numbers l) ++ 10 ∷ rest) → ⊥) → ¬ (BeginsWithLine bytes)
-no_line bytes no' b = no' b.line b.fits b.rest (b.text ∙ parts b.line b.rest)
+no_line bytes no' b = no' b.line b.fits b.rest (b.text ∙ line_parts b.line b.rest)
 
-two_words : (x y : List ℕ) → codes "func" ++ x ≡ codes "block" ++ y → ⊥
+pub two_words : (x y : List ℕ) → codes "func" ++ x ≡ codes "block" ++ y → ⊥
 two_words x y e = let h : 102 ≡ 98 = ap (λ (l : List ℕ). get_or l 0 0) e in absurd (omega (arith, h))
 
 -- where a word stands and no line with it, no line stands
@@ -141,3 +144,59 @@ none_run bytes k ns mid behind e run end s (Function i j) is rest r = cc
 none_run bytes k ns mid behind e run end s (Block b ms) is rest r =
     let f = same_front bytes k b mid r.0 e r.1 in
     s rest (same_run mid ns ms behind (10 ∷ rest) run end (subst (λ t. Run t ms (10 ∷ rest)) (sym f.1) r.2) (front_feed rest)).1
+
+-- ---- a line, by its word
+
+pub from_function : {E : Type 0} (bytes mid : List ℕ) (old new : List Line) → bytes ≡ codes "func" ++ mid → (r : Result (Option (Bor (List ℕ))) E) → IfOk r (λ o. MatchOption o (NoneBehind (codes "func") mid) (λ x. AddsBehind (codes "func") mid old new x.now))
+    → IfOk r (λ o. MatchOption o (¬ (BeginsWithLine bytes)) (λ x. AddsLine bytes old new x.now))
+from_function bytes mid old new e (Ok None) h = no_function bytes mid e h
+from_function bytes mid old new e (Ok (Some x)) h = adds_line (codes "func") bytes mid old new x.now e h
+from_function bytes mid old new e (Err x) h = tt
+
+pub from_block : {E : Type 0} (bytes mid : List ℕ) (old new : List Line) → bytes ≡ codes "block" ++ mid → (r : Result (Option (Bor (List ℕ))) E) → IfOk r (λ o. MatchOption o (NoneBehind (codes "block") mid) (λ x. AddsBehind (codes "block") mid old new x.now))
+    → IfOk r (λ o. MatchOption o (¬ (BeginsWithLine bytes)) (λ x. AddsLine bytes old new x.now))
+from_block bytes mid old new e (Ok None) h = no_block bytes mid e h
+from_block bytes mid old new e (Ok (Some x)) h = adds_line (codes "block") bytes mid old new x.now e h
+from_block bytes mid old new e (Err x) h = tt
+
+-- ---- all lines
+
+-- the text is made of these lines, up to what is left
+pub record LinesSoFar (bytes : List ℕ) (ls : List Line) (rest : List ℕ) : Type 0 where
+  pub text : bytes ≡ text_of_lines ls ++ rest
+  pub fit : All Fits ls
+
+pub lines_none : (bytes rest : List ℕ) → bytes ≡ first_line ++ rest → LinesSoFar bytes [] rest
+lines_none bytes rest e = record { text = e; fit = All-nil Fits }
+
+pub lines_more : (bytes : List ℕ) (old new : List Line) (rest later : List ℕ) → LinesSoFar bytes old rest → AddsLine rest old new later → LinesSoFar bytes new later
+lines_more bytes old new rest later s a = record {
+  text =
+      s.text ∙ ap (λ l. text_of_lines old ++ l) a.text ∙ sym (append_assoc (text_of_lines old) (line_text a.line) later)
+      ∙ ap (λ l. l ++ later) (flat_map_more line_text first_line old a.line) ∙ ap (λ ls. text_of_lines ls ++ later) (sym a.added);
+  fit = subst (λ ls. All Fits ls) (sym a.added) (All-push Fits old a.line s.fit a.fits);
+}
+
+pub lines_all : (bytes : List ℕ) (ls : List Line) (rest : List ℕ) → length rest ≡ 0 → LinesSoFar bytes ls rest → HasLines bytes ls
+lines_all bytes ls rest none s = record { text = s.text ∙ ap (λ l. text_of_lines ls ++ l) (nil_from_length rest none) ∙ append-nil (text_of_lines ls); fit = s.fit }
+
+pub line_shorter : (rest : List ℕ) (old new : List Line) (later : List ℕ) → AddsLine rest old new later → length later < length rest
+line_shorter rest old new later a = omega (arith, ap length a.text, length-append (line_text a.line) later, some a.line)
+  where
+    some : (l : Line) → 0 < length (line_text l)
+    some (Function k n) = omega arith
+    some (Block b ns) = omega arith
+
+pub few_lines : (bytes : List ℕ) (ls : List Line) (rest : List ℕ) → LinesSoFar bytes ls rest → length ls + 16 ≤ length bytes
+few_lines bytes ls rest s = omega (arith, ap length s.text, length-append (text_of_lines ls) rest, length-append first_line (flat_map line_text ls), short ls)
+  where
+    some : (l : Line) → 0 < length (line_text l)
+    some (Function k n) = omega arith
+    some (Block b ns) = omega arith
+
+    short : (ls : List Line) → length ls ≤ length (flat_map line_text ls)
+    short [] = omega arith
+    short (l ∷ ls) = omega (arith, length-append (line_text l) (flat_map line_text ls), some l, short ls)
+
+pub stops_behind : (bytes : List ℕ) (ls : List Line) (rest : List ℕ) → LinesSoFar bytes ls rest → (length rest ≡ 0 → ⊥) → ¬ (BeginsWithLine rest) → StopsBehind bytes ls
+stops_behind bytes ls rest s some none = record { fit = s.fit; rest = rest; text = s.text; goes_on = λ e. some (ap length e); formless = none }

@@ -11,9 +11,13 @@ use Rattle.flow_graph.specs.Slots.{slots}
 use Rattle.flow_graph.specs.Paths.{IsReached, AreReached}
 use Rattle.profile.specs.declared.counts.FnCounts.{FnCounts}
 
+-- a function that has blocks; others are declarations
+abbrev pub is_defined : Function → Bool
+is_defined f = not (is_nil f.blocks)
+
 -- the functions that have blocks, in text order
 abbrev pub defined : Program → List Function
-defined m = filter (λ f. not (is_nil f.blocks)) m.functions
+defined m = filter is_defined m.functions
 
 -- ---- the shape
 

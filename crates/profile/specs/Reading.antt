@@ -13,7 +13,7 @@ use Rattle.profile.specs.declared.reading.ProfileError.TheVariants.{Form, Shape,
 use Rattle.profile.specs.Counts.{defined, HasShape, IsBalanced, IsUnreachedZero, IsAccepted, entering, leaving, goes_on, total}
 use Rattle.profile.specs.declared.lines.Line.{Line}
 use Rattle.profile.specs.declared.lines.Line.TheVariants as line
-use Rattle.profile.specs.Text.{numbers, line_text, first_line, text_of_lines, prof_text, width}
+use Rattle.profile.specs.Text.{numbers, line_text, first_line, text_of_lines, lines, prof_text, width}
 
 -- ---- lines of the forms
 
@@ -79,10 +79,10 @@ pub record IsFirstDifference {X : Type 0} (xs ys : List X) (place : ℕ) : Type 
 
 -- the first line that isn't the module's, counted from 1
 pub record IsMisshapen (m : Program) (bytes : List ℕ) (line : ℕ) : Type 0 where
-  pub lines : List Line
-  pub has : HasLines bytes lines
+  pub read : List Line
+  pub has : HasLines bytes read
   pub place : ℕ
-  pub first : IsFirstDifference (outlines m) (map outline lines) place
+  pub first : IsFirstDifference (outlines m) (map outline read) place
   pub line_is : line ≡ place + 2
 
 -- ---- the counts
@@ -90,8 +90,7 @@ pub record IsMisshapen (m : Program) (bytes : List ℕ) (line : ℕ) : Type 0 wh
 -- the text is that of these counts of the module's shape
 pub record Says (m : Program) (bytes : List ℕ) (counts : List FnCounts) : Type 0 where
   pub shape : HasShape m counts
-  pub text : bytes ≡ prof_text m counts
-  pub fit : All (λ c. (c.entry < 2 ^ 64) × All (λ n. n < 2 ^ 64) c.slots) counts
+  pub has : HasLines bytes (lines m counts)
 
 -- of the reached blocks that don't end by `ret` this one is the first out of balance, with what enters and what leaves
 pub record IsFirstUnbalanced (f : Function) (c : FnCounts) (b into out : ℕ) : Type 0 where

@@ -1,11 +1,13 @@
 //! Profiles: counts of a module, their text, and their balance.
 #![tactic(auto)]
 
+mod checking;
 pub mod counts;
 pub mod lines;
 mod numbers;
 mod printing;
 mod reading;
+mod shapes;
 mod sums;
 
 pub use counts::{FnCounts, Profile};

@@ -100,9 +100,10 @@ pub(crate) fn read_lines(alloc: Global, bytes: &[u8]) -> Result<Items<Line>, Pro
     let mut rest = behind;
     let mut lines = Items::new(alloc);
     while !rest.is_empty() {
+        let line = lines.len() as u32 + 2;
         match read_line(alloc, rest, &mut lines)? {
             Some(later) => rest = later,
-            None => return Err(ProfileError::Form(lines.len() as u32 + 2)),
+            None => return Err(ProfileError::Form(line)),
         }
     }
     Ok(lines)

@@ -1,0 +1,10 @@
+use Rattle.std.proofs.Common.{◌≡◌}
+use Rattle.profile.specs.Counts.{IsUnreachedZero}
+use Rattle.profile.proofs.Walks.{Walking}
+use Rattle.profile.proofs.checking.check_all_reached.Given as goal
+
+abbrev pub invariant-loop-function : goal.invariant-loop-function
+invariant-loop-function l = record {
+  functions : l.function-items ≡ l.program.functions;
+  walking : Walking IsUnreachedZero l.function-items l.counts l.function-index l.number;
+}
