@@ -130,17 +130,17 @@ not_misshapen m bytes n counts p s =
 
 -- ---- counts
 
-cut : {X : Type 0} (as bs xs ys : List X) → length as ≡ length bs → as ++ xs ≡ bs ++ ys → (as ≡ bs) × (xs ≡ ys)
-cut as bs xs ys len e = (
-  sym (take_at as xs (length as) refl) ∙ ap (take (length as)) e ∙ take_at bs ys (length as) (sym len),
-  sym (drop_at as xs (length as) refl) ∙ ap (drop (length as)) e ∙ drop_at bs ys (length as) (sym len),
+cut : {X : Type 0} (fs gs xs ys : List X) → length fs ≡ length gs → fs ++ xs ≡ gs ++ ys → (fs ≡ gs) × (xs ≡ ys)
+cut fs gs xs ys len e = (
+  sym (take_at fs xs (length fs) refl) ∙ ap (take (length fs)) e ∙ take_at gs ys (length fs) (sym len),
+  sym (drop_at fs xs (length fs) refl) ∙ ap (drop (length fs)) e ∙ drop_at gs ys (length fs) (sym len),
 )
 
-counts_in : Line → List ℕ
+abbrev counts_in : Line → List ℕ
 counts_in (line.Function k n) = []
 counts_in (line.Block b ns) = ns
 
-entry_in : Line → ℕ
+abbrev entry_in : Line → ℕ
 entry_in (line.Function k n) = n
 entry_in (line.Block b ns) = 0
 
@@ -158,7 +158,6 @@ one_block_lines b (x ∷ xs) cs ds p q e =
     sym (take-append-drop (width x) cs) ∙ ap (λ l. l ++ drop (width x) cs) (own h.0) ∙ ap (λ l. take (width x) ds ++ l) more ∙ take-append-drop (width x) ds
   where
     own : line.Block b (take (width x) cs) ≡ line.Block b (take (width x) ds) → take (width x) cs ≡ take (width x) ds
-    unfolding counts_in
     own h = ap counts_in h
 
 one_functions : (k : ℕ) (fs : List Function) (cs ds : List FnCounts) → AllZip HasSlots fs cs → AllZip HasSlots fs ds → function_lines k fs cs ≡ function_lines k fs ds → cs ≡ ds
@@ -175,7 +174,6 @@ one_functions k (f ∷ fs) (c ∷ cs) (d ∷ ds) p q e =
     ap (λ x. x ∷ cs) own ∙ ap (λ l. d ∷ l) (one_functions (k + 1) fs cs ds p.1 q.1 parts.1)
   where
     entry : line.Function k c.entry ≡ line.Function k d.entry → c.entry ≡ d.entry
-    unfolding entry_in
     entry h = ap entry_in h
 
 pub one_saying : (m : Program) (bytes : List ℕ) (cs ds : List FnCounts) → Says m bytes cs → Says m bytes ds → cs ≡ ds
