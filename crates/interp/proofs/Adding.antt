@@ -1,6 +1,6 @@
 -- One event more in a tally.
-use Rattle.std.proofs.Common.{◌≡◌, ◌⊎◌, ⊎_elim, ℕ, zero, suc, ◌+◌, ◌-◌, ◌^◌, ◌<◌, ◌≤◌, Bool, true, false, cond, eqb, List, [], ◌∷◌, ◌++◌, length, map, take, get_or, min, Option, Some, None, refl, sym, ap, ◌∙◌, subst, arith}
-use Rattle.std.specs.Prelude.{sum_by, slice_get, slice_set, slice_index, count_by, ◌==◌, ◌&&◌}
+use Rattle.std.proofs.Common.{◌≡◌, ◌⊎◌, ⊎_elim, ℕ, zero, suc, ◌+◌, ◌-◌, ◌^◌, ◌<◌, ◌≤◌, Bool, true, false, cond, List, [], ◌∷◌, ◌++◌, length, map, take, get_or, min, Option, Some, refl, sym, ap, ◌∙◌, subst, arith}
+use Rattle.std.specs.Prelude.{slice_get, slice_set, slice_index, ◌==◌, ◌&&◌}
 use Rattle.std.proofs.lemmas.Option.{slice_get_within, get_or_from_slice_get}
 use Rattle.std.proofs.lemmas.List.Sums.{sum_by-cons, count_by-le-length}
 use Rattle.ir_types.specs.Program.{Program}
@@ -11,13 +11,13 @@ use Rattle.mc_num.specs.declared.op.Trap.{Trap}
 use Rattle.machines.specs.declared.events.Event.{Event}
 use Rattle.machines.specs.declared.events.Event.TheVariants.{Went, Took, Entered, Wants, Shows, Returned, Trapped}
 use Rattle.ir_machine.specs.Same.{is_defined}
-use Rattle.ir_machine.specs.Prof.{Counts, entries, takings, is_entry, is_taking, slot_takings, function_counts, counts_of}
+use Rattle.ir_machine.specs.Prof.{entries, takings, is_entry, is_taking, slot_takings, function_counts, counts_of}
 use Rattle.profile.specs.declared.counts.FnCounts.{FnCounts}
 use Rattle.run_counts.specs.Counted.{fn_counts}
 use Rattle.run_counts.proofs.Keys.{slots_before}
 use Rattle.run_counts.proofs.Tallied.{defined_before, counts_at, counts_set, counts_kept, entered_counts, took_counts}
-use Rattle.interp.specs.Tallies.{starts_from, HasSlot, HasFunction, IsEventOf}
-use Rattle.interp.specs.TallyOf.{places_from, IsTally, CanAdd}
+use Rattle.interp.specs.Tallies.{starts_from, HasSlot, HasFunction}
+use Rattle.interp.specs.TallyOf.{places_from, IsTally}
 use Rattle.interp.specs.declared.tally.Places.{Places}
 use Rattle.interp.specs.declared.tally.Tally.{Tally}
 
@@ -156,10 +156,10 @@ module _ (m : Program) (main : ℕ) (events : List Event) (t : Tally) (i b s : �
         let place' = start + s in
         let at_is' : at ≡ place' = at_is ∙ ap (λ k. k + s) start_is in
         let slots_is : slots' ≡ slice_set (slot_takings events i f.blocks) place' (n + 1) =
-            raises n (ap (slice_get c.slots) at_is ∙ slot_there)
-            ∙ ap (slice_set c.slots at) (raised_is n (omega (arith, le, few)))
-            ∙ ap (λ (c : FnCounts). slice_set c.slots at (n + 1)) own_is
-            ∙ ap (λ k. slice_set (slot_takings events i f.blocks) k (n + 1)) at_is'
+        raises n (ap (slice_get c.slots) at_is ∙ slot_there)
+        ∙ ap (slice_set c.slots at) (raised_is n (omega (arith, le, few)))
+        ∙ ap (λ (c : FnCounts). slice_set c.slots at (n + 1)) own_is
+        ∙ ap (λ k. slice_set (slot_takings events i f.blocks) k (n + 1)) at_is'
         in
         let entry_is : c.entry ≡ entries main events i = ap (λ (c : FnCounts). c.entry) own_is in
         let new : FnCounts = record { entry = c.entry; slots = slots' } in

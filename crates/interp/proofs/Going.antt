@@ -1,14 +1,14 @@
 -- A run that goes on, step by step.
-use Rattle.std.proofs.Common.{◌≡◌, ℕ, zero, suc, ◌+◌, ◌-◌, ◌^◌, ◌<◌, ◌≤◌, Bool, true, false, List, [], ◌∷◌, ◌++◌, length, Option, Some, None, refl, sym, ap, ◌∙◌, subst, arith, append_assoc, length-append}
-use Rattle.std.specs.Prelude.{IsTrue, Ok, Err}
+use Rattle.std.proofs.Common.{◌≡◌, ℕ, zero, suc, ◌+◌, ◌-◌, ◌^◌, ◌≤◌, false, List, [], ◌∷◌, ◌++◌, length, Option, Some, None, refl, sym, ap, ◌∙◌, subst, arith, append_assoc, length-append}
+use Rattle.std.specs.Prelude.{IsTrue, Ok}
 use Rattle.mc_host.specs.declared.faults.Failed.{Failed}
-use Rattle.mc_host.specs.Streams.{SourceState, SinkState, Draws, Puts, Takes}
+use Rattle.mc_host.specs.Streams.{SourceState, SinkState, Draws, Puts}
 use Rattle.ir_types.specs.Program.{Program}
 use Rattle.ir_types.specs.WellFormed.{IsWellFormed}
 use Rattle.ir_types.specs.declared.syntax.Function.{Function}
 use Rattle.machines.specs.declared.events.Event.{Event}
 use Rattle.machines.specs.declared.events.Event.TheVariants.{Went, Took, Entered, Wants, Shows, Returned, Trapped}
-use Rattle.machines.specs.Runs.{Exchange, TookByte, MetEnd, ShowedByte, Progress, At, Over, Machine, after, go_on}
+use Rattle.machines.specs.Runs.{Exchange, TookByte, MetEnd, ShowedByte, Progress, At, Machine, after, go_on}
 use Rattle.machines.specs.Events.{events_of, next_events}
 use Rattle.machines.specs.Acts.{Running, Frames, turn, got}
 use Rattle.machines.specs.Meaning.{State, state, End, machine_of, effect_of, followed, taken}
@@ -24,7 +24,7 @@ use Rattle.run_counts.proofs.Placed.{at, target_in, IsSlotIn, IsDefinedIn, IsEnd
 use Rattle.run_counts.proofs.Balanced.{has_slot}
 use Rattle.run_counts.proofs.Totals.{some_function}
 use Rattle.run_counts.proofs.Walked.{Walked, walk_starts, walk_turns, walk_gets}
-use Rattle.interp.specs.Tallies.{HasSlot, HasFunction, IsEventOf}
+use Rattle.interp.specs.Tallies.{IsEventOf}
 use Rattle.interp.specs.Run.{bytes_taken, bytes_shown}
 use Rattle.interp.specs.Follows.{Follows, Stays, given}
 use Rattle.interp.specs.TallyOf.{IsTally}
@@ -172,44 +172,44 @@ module _ (m : Program) (rules : IsWellFormed m) (main : ℕ) (f : Function) (ste
         sink_faults = subst (λ (s : SinkState). sink0.faults ≤ s.faults) (sym follows.3) going.sink_faults;
         sink_tells = ap (λ (s : SinkState). s.tells) follows.3 ∙ going.sink_tells;
       } where
-    put_same : (tells : IsTrue source0.tells) (item : Exchange) → bytes_shown (item ∷ []) ≡ [] → IsTrue sink0.tells → sink'.written ≡ sink0.written ++ bytes_shown ((here tells).transcript ++ item ∷ [])
-    put_same tells item none told =
-        ap (λ (s : SinkState). s.written) follows.3 ∙ (here tells).put told ∙ ap (λ l. sink0.written ++ l) (sym (append-nil (bytes_shown (here tells).transcript)) ∙ ap (λ l. bytes_shown (here tells).transcript ++ l) (sym none) ∙ sym (bytes_shown-append (here tells).transcript (item ∷ [])))
+        put_same : (tells : IsTrue source0.tells) (item : Exchange) → bytes_shown (item ∷ []) ≡ [] → IsTrue sink0.tells → sink'.written ≡ sink0.written ++ bytes_shown ((here tells).transcript ++ item ∷ [])
+        put_same tells item none told =
+            ap (λ (s : SinkState). s.written) follows.3 ∙ (here tells).put told ∙ ap (λ l. sink0.written ++ l) (sym (append-nil (bytes_shown (here tells).transcript)) ∙ ap (λ l. bytes_shown (here tells).transcript ++ l) (sym none) ∙ sym (bytes_shown-append (here tells).transcript (item ∷ [])))
 
-    told_source : IsTrue source0.tells → IsTrue source.tells
-    told_source tells = subst IsTrue (sym going.source_tells) tells
+        told_source : IsTrue source0.tells → IsTrue source.tells
+        told_source tells = subst IsTrue (sym going.source_tells) tells
 
-    on_wants : (tells : IsTrue source0.tells) → run_after m main f source0.left (steps + 1) ≡ At (taken (frames_of m) next source.left (here tells).transcript)
-    on_wants tells = run_on tells ∙ ap (λ e. followed (frames_of m) (effect_of e) next source.left (here tells).transcript) wants
+        on_wants : (tells : IsTrue source0.tells) → run_after m main f source0.left (steps + 1) ≡ At (taken (frames_of m) next source.left (here tells).transcript)
+        on_wants tells = run_on tells ∙ ap (λ e. followed (frames_of m) (effect_of e) next source.left (here tells).transcript) wants
 
-    stood_given : (byte : Option ℕ) → (tells : IsTrue source0.tells) → Draws {E = Failed} (Ok byte) source source' → StandsAt m main f (steps + 1) (got (frames_of m) next (byte_value byte)) events' source0 source' sink0 sink'
-    stood_given None tells drawn =
-        let w = (here tells).transcript in
-        let takes = drawn.bytes (told_source tells) in
-        record {
-          transcript = w ++ MetEnd ∷ [];
-          at = on_wants tells
-              ∙ ap (λ i. At (taken (frames_of m) next i w)) takes.0
-              ∙ ap (λ i. At (state (got (frames_of m) next (2 ^ 32 - 1)) i (w ++ MetEnd ∷ []))) (sym takes.1);
-          events_are = events_on tells;
-          taken_are = (here tells).taken_are
-              ∙ ap (λ l. bytes_taken w ++ l) (takes.0 ∙ sym takes.1)
-              ∙ ap (λ l. l ++ source'.left) (sym (append-nil (bytes_taken w)) ∙ sym (bytes_taken-append w (MetEnd ∷ [])));
-          put = put_same tells MetEnd refl;
-        }
-    stood_given (Some byte) tells drawn =
-        let w = (here tells).transcript in
-        let takes = drawn.bytes (told_source tells) in
-        record {
-          transcript = w ++ TookByte byte ∷ [];
-          at = on_wants tells ∙ ap (λ i. At (taken (frames_of m) next i w)) takes;
-          events_are = events_on tells;
-          taken_are = (here tells).taken_are
-              ∙ ap (λ l. bytes_taken w ++ l) takes
-              ∙ sym (append_assoc (bytes_taken w) (byte ∷ []) source'.left)
-              ∙ ap (λ l. l ++ source'.left) (sym (bytes_taken-append w (TookByte byte ∷ [])));
-          put = put_same tells (TookByte byte) refl;
-        }
+        stood_given : (byte : Option ℕ) → (tells : IsTrue source0.tells) → Draws {E = Failed} (Ok byte) source source' → StandsAt m main f (steps + 1) (got (frames_of m) next (byte_value byte)) events' source0 source' sink0 sink'
+        stood_given None tells drawn =
+            let w = (here tells).transcript in
+            let takes = drawn.bytes (told_source tells) in
+            record {
+              transcript = w ++ MetEnd ∷ [];
+              at = on_wants tells
+                  ∙ ap (λ i. At (taken (frames_of m) next i w)) takes.0
+                  ∙ ap (λ i. At (state (got (frames_of m) next (2 ^ 32 - 1)) i (w ++ MetEnd ∷ []))) (sym takes.1);
+              events_are = events_on tells;
+              taken_are = (here tells).taken_are
+                  ∙ ap (λ l. bytes_taken w ++ l) (takes.0 ∙ sym takes.1)
+                  ∙ ap (λ l. l ++ source'.left) (sym (append-nil (bytes_taken w)) ∙ sym (bytes_taken-append w (MetEnd ∷ [])));
+              put = put_same tells MetEnd refl;
+            }
+        stood_given (Some byte) tells drawn =
+            let w = (here tells).transcript in
+            let takes = drawn.bytes (told_source tells) in
+            record {
+              transcript = w ++ TookByte byte ∷ [];
+              at = on_wants tells ∙ ap (λ i. At (taken (frames_of m) next i w)) takes;
+              events_are = events_on tells;
+              taken_are = (here tells).taken_are
+                  ∙ ap (λ l. bytes_taken w ++ l) takes
+                  ∙ sym (append_assoc (bytes_taken w) (byte ∷ []) source'.left)
+                  ∙ ap (λ l. l ++ source'.left) (sym (bytes_taken-append w (TookByte byte ∷ [])));
+              put = put_same tells (TookByte byte) refl;
+            }
 
   pub on_shows : (byte : ℕ) → event ≡ Shows byte → (tells : IsTrue source0.tells) → run_after m main f source0.left (steps + 1) ≡ At (state next source.left ((here tells).transcript ++ ShowedByte byte ∷ []))
   on_shows byte shows tells = run_on tells ∙ ap (λ e. followed (frames_of m) (effect_of e) next source.left (here tells).transcript) shows

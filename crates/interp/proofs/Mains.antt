@@ -1,5 +1,5 @@
 -- The search for main, a function at a time.
-use Rattle.std.proofs.Common.{◌≡◌, ℕ, zero, suc, ◌+◌, ◌<◌, Bool, true, false, cond, List, [], ◌∷◌, length, drop, get_or, Option, Some, None, refl, sym, ap, ◌∙◌, arith}
+use Rattle.std.proofs.Common.{◌≡◌, ℕ, suc, ◌+◌, ◌<◌, Bool, true, false, cond, List, [], ◌∷◌, length, drop, get_or, Option, Some, None, refl, sym, ap, ◌∙◌, arith}
 use Rattle.std.specs.Prelude.{◌&&◌, codes, option_map, slice_get}
 use Rattle.std.specs.Str.{bytes_eq}
 use Rattle.std.proofs.Math.Seq.{drop-cons}
@@ -59,7 +59,7 @@ main_found : (i : ℕ) (fs : List Function) (main : ℕ) (f : Function) → main
 main_found i [] main f e = cc
 main_found i (g ∷ fs) main f e =
     elim (is_main g) as (λ b. is_main g ≡ b → cond b (Some (i, g)) (main_from (i + 1) fs) ≡ Some (main, f) → Found i (g ∷ fs) main f) [
-      true ↦ (λ is e. found_here i main g f fs is e)
+      | true ↦ (λ is e. found_here i main g f fs is e)
       | false ↦ (λ is e.
           let later = main_found (i + 1) fs main f e in
           record {
@@ -97,7 +97,3 @@ numbered None number e = cc
 numbered (Some main) number e =
     let same : number ≡ main.0 = cc in
     (main.1, ap (λ n. Some (n, main.1)) (sym same))
-
-pub none_found : (o : Option (ℕ × Function)) → None ≡ option_map (λ (main : ℕ × Function). main.0) o → o ≡ None
-none_found None e = refl
-none_found (Some main) e = cc

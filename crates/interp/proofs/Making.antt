@@ -1,14 +1,14 @@
 -- A tally as it is made.
-use Rattle.std.proofs.Common.{◌≡◌, ℕ, zero, suc, ◌+◌, ◌<◌, Bool, true, false, cond, eqb, List, [], ◌∷◌, ◌++◌, length, map, take, drop, replicate, get_or, Option, Some, None, refl, sym, ap, ◌∙◌, subst, arith, append_assoc, length-append}
-use Rattle.std.specs.Prelude.{sum_by, slice_get, ◌==◌}
+use Rattle.std.proofs.Common.{◌≡◌, ℕ, zero, suc, ◌+◌, ◌<◌, Bool, true, false, cond, List, [], ◌∷◌, ◌++◌, length, map, take, drop, replicate, get_or, refl, sym, ap, ◌∙◌, arith, append_assoc, length-append}
+use Rattle.std.specs.Prelude.{◌==◌}
 use Rattle.std.proofs.Math.Seq.{drop-cons}
 use Rattle.std.proofs.lemmas.List.{replicate-append-replicate, take_more, length-replicate}
-use Rattle.std.proofs.lemmas.List.Sums.{sum_by-cons, sum_by-append, sum_by_push}
+use Rattle.std.proofs.lemmas.List.Sums.{sum_by-cons, sum_by_push}
 use Rattle.ir_types.specs.Limits.{slot_count}
 use Rattle.ir_types.specs.declared.syntax.Block.{Block}
 use Rattle.ir_types.specs.declared.syntax.Function.{Function}
 use Rattle.ir_machine.specs.Same.{is_defined}
-use Rattle.ir_machine.specs.Prof.{Counts, takings, slot_takings, function_counts, counts_of}
+use Rattle.ir_machine.specs.Prof.{takings, function_counts}
 use Rattle.profile.specs.declared.counts.FnCounts.{FnCounts}
 use Rattle.run_counts.specs.Counted.{fn_counts}
 use Rattle.run_counts.proofs.Splits.{map-append}
@@ -50,9 +50,9 @@ no_takings function i (b ∷ blocks) =
     ∙ ap (λ l. replicate n 0 ++ l) (no_takings function (i + 1) blocks)
     ∙ replicate-append-replicate n (slots_in blocks) 0
     ∙ ap (λ k. replicate k 0) (sym (sum_by-cons (λ b. slot_count b.term) b blocks)) where
-  no_slots : (from n : ℕ) → map (λ k. takings [] function k.0 k.1) (keys_of i from n) ≡ replicate n 0
-  no_slots from zero = refl
-  no_slots from (suc n) = ap (λ l. 0 ∷ l) (no_slots (from + 1) n)
+      no_slots : (from n : ℕ) → map (λ k. takings [] function k.0 k.1) (keys_of i from n) ≡ replicate n 0
+      no_slots from zero = refl
+      no_slots from (suc n) = ap (λ l. 0 ∷ l) (no_slots (from + 1) n)
 
 first_are : (main number : ℕ) (f : Function) → fn_counts (function_counts main [] number f) ≡ record { entry = cond (number == main) 1 0; slots = replicate (slots_in f.blocks) 0 }
 first_are main number f =
@@ -68,7 +68,7 @@ left_next main number f fs =
     let rest = defined_from (number + 1) fs in
     let first : FnCounts = record { entry = cond (number == main) 1 0; slots = replicate (slots_in f.blocks) 0 } in
     elim (is_defined f.blocks) as (λ b. cond b (first ∷ []) [] ++ counts_left main (number + 1) fs ≡ map fn_counts (map (λ x. function_counts main [] x.0 x.1) (cond b ((number, f) ∷ rest) rest))) [
-      true ↦ ap (λ c. c ∷ counts_left main (number + 1) fs) (sym (first_are main number f))
+      | true ↦ ap (λ c. c ∷ counts_left main (number + 1) fs) (sym (first_are main number f))
       | false ↦ refl
     ]
 

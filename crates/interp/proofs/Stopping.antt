@@ -1,6 +1,6 @@
 -- What a run has done when it stops.
-use Rattle.std.proofs.Common.{◌≡◌, ◌⊎◌, inl, inr, ⊎_elim, ℕ, zero, suc, ◌+◌, ◌-◌, ◌^◌, ◌<◌, ◌≤◌, Bool, true, false, List, [], ◌∷◌, ◌++◌, length, map, Option, Some, None, refl, sym, ap, ◌∙◌, subst, arith, append_assoc}
-use Rattle.std.specs.Prelude.{IsTrue, IsSome, Result, Ok, Err, IfOk, IfErr, is_some, slice_get, option_map}
+use Rattle.std.proofs.Common.{◌≡◌, ◌⊎◌, inl, inr, ⊎_elim, ℕ, ◌+◌, ◌-◌, ◌^◌, ◌<◌, ◌≤◌, true, List, [], ◌∷◌, ◌++◌, length, map, Option, Some, refl, sym, ap, ◌∙◌, subst, arith, append_assoc}
+use Rattle.std.specs.Prelude.{IsTrue, IsSome, Result, Ok, Err, is_some, slice_get, option_map}
 use Rattle.std.proofs.lemmas.Bool.{cases_lt}
 use Rattle.mc_num.specs.declared.memory.NoMemory.{NoMemory}
 use Rattle.mc_num.specs.declared.op.Trap.{Trap}
@@ -11,11 +11,11 @@ use Rattle.ir_types.specs.Program.{Program}
 use Rattle.ir_types.specs.WellFormed.{IsWellFormed}
 use Rattle.ir_types.specs.declared.syntax.Function.{Function}
 use Rattle.machines.specs.declared.events.Event.{Event}
-use Rattle.machines.specs.declared.events.Event.TheVariants.{Went, Took, Entered, Wants, Shows, Returned, Trapped}
+use Rattle.machines.specs.declared.events.Event.TheVariants.{Wants, Shows, Returned, Trapped}
 use Rattle.machines.specs.Runs.{Exchange, ShowedByte, Progress, At, Over, after}
-use Rattle.machines.specs.Events.{events_of, next_events}
-use Rattle.machines.specs.Acts.{Running, turn}
-use Rattle.machines.specs.Meaning.{State, state, End, ByReturn, ByTrap, machine_of, effect_of, followed}
+use Rattle.machines.specs.Events.{events_of}
+use Rattle.machines.specs.Acts.{turn}
+use Rattle.machines.specs.Meaning.{State, End, ByReturn, ByTrap, machine_of, effect_of, followed}
 use Rattle.machines.proofs.Lockstep.{after-add, after_over}
 use Rattle.ir_machine.specs.declared.frame.Frame.{Frame}
 use Rattle.ir_machine.specs.Step.{Globals, frames_of}
@@ -25,20 +25,18 @@ use Rattle.ir_machine.specs.Code.{MachineState}
 use Rattle.profile.specs.declared.counts.FnCounts.{FnCounts}
 use Rattle.profile.specs.Counts.{IsAccepted}
 use Rattle.run_counts.specs.Counted.{run_after, fn_counts, counts_after}
-use Rattle.run_counts.proofs.Placed.{IsDefinedIn}
 use Rattle.run_counts.proofs.Runs.{over_events}
 use Rattle.run_counts.proofs.Walked.{walk_ends}
 use Rattle.run_counts.proofs.Accepted.{accepted}
 use Rattle.interp.specs.Main.{main_of, run_of, prof_of}
 use Rattle.interp.specs.Run.{bytes_taken, bytes_shown, transcript_of, NextIs, EndsWith, EndsAs, HasCause, StandsFor, HasPut, CameTo, Ran}
 use Rattle.interp.specs.Follows.{Follows, Stays, ended_by}
-use Rattle.interp.specs.TallyOf.{IsTally}
 use Rattle.interp.specs.declared.tally.Tally.{Tally}
 use Rattle.interp.specs.declared.ends.RunEnd.{RunEnd}
 use Rattle.interp.specs.declared.ends.RunEnd.TheVariants as end
 use Rattle.interp.specs.declared.ends.Stop.{Stop}
 use Rattle.interp.specs.declared.ends.Stop.TheVariants as stop
-use Rattle.interp.proofs.Going.{Going, StandsAt, Stepped, events_of-add, event_is, events', run_on, events_on, here, on_shows, shown_more, taken_same, told_sink}
+use Rattle.interp.proofs.Going.{Going, Stepped, events_of-add, event_is, run_on, events_on, on_shows, shown_more, taken_same, told_sink}
 
 -- a count that rose in the last call has risen since before
 rose_since : (first before now : ℕ) → first ≤ before → before ≤ now → Rose before now → Rose first now
@@ -68,9 +66,9 @@ module _ (m : Program) (main : ℕ) (f : Function) (is_main : main_of m ≡ Some
       let a = ap (λ n. after M n p) (sym e) ∙ after-add M k (limit - k) p ∙ ap (after M (limit - k)) over ∙ after_over M (limit - k) by w in
       let b = ap (λ n. events_of frames n p) (sym e) ∙ events_of-add frames k (limit - k) p ∙ ap (λ q. events_of frames k p ++ events_of frames (limit - k) q) over ∙ ap (λ l. events_of frames k p ++ l) (over_events frames (limit - k) by w) ∙ append-nil (events_of frames k p) in
       (a, b) where
-    append-nil : (xs : List Event) → xs ++ [] ≡ xs
-    append-nil [] = refl
-    append-nil (x ∷ xs) = ap (λ l. x ∷ l) (append-nil xs)
+        append-nil : (xs : List Event) → xs ++ [] ≡ xs
+        append-nil [] = refl
+        append-nil (x ∷ xs) = ap (λ l. x ∷ l) (append-nil xs)
 
   -- the answer at the limit
   ends_as : (input : List ℕ) (limit : ℕ) (answer : RunEnd) (p : Progress (State Frame Globals) End) (counts : List FnCounts) → run_after m main f input limit ≡ p → counts_after m main f input limit ≡ counts → EndsWith (Some p) (Some counts) answer → EndsAs m input limit answer
@@ -194,9 +192,9 @@ module _ (m : Program) (main : ℕ) (f : Function) (is_main : main_of m ≡ Some
         ran_over (end.Returned value' (record { functions = tally'.counts.items })) (ByReturn value) (has_main, fine) stays
         (is_over (ByReturn value) (Returned value) is (λ w. refl))
         (λ tells. ends_as source0.left limit (end.Returned value' (record { functions = tally'.counts.items })) (Over (ByReturn value) (W tells)) tally'.counts.items
-            (is_over (ByReturn value) (Returned value) is (λ w. refl) tells)
-            (counts_are (ByReturn value) (Returned value) is (λ w. refl) tells)
-            (same, refl))
+        (is_over (ByReturn value) (Returned value) is (λ w. refl) tells)
+        (counts_are (ByReturn value) (Returned value) is (λ w. refl) tells)
+        (same, refl))
         refl (λ old new shown e. e)
 
     trapped : (trap trap' : Trap) → event ≡ Trapped trap → trap' ≡ trap → Stays machine1 machine' source source' sink sink' → Ran m limit source0 source' sink0 sink' (Ok (end.Trapped trap'))
@@ -204,9 +202,9 @@ module _ (m : Program) (main : ℕ) (f : Function) (is_main : main_of m ≡ Some
         ran_over (end.Trapped trap') (ByTrap trap) has_main stays
         (is_over (ByTrap trap) (Trapped trap) is (λ w. refl))
         (λ tells. ends_as source0.left limit (end.Trapped trap') (Over (ByTrap trap) (W tells)) tally'.counts.items
-            (is_over (ByTrap trap) (Trapped trap) is (λ w. refl) tells)
-            (counts_are (ByTrap trap) (Trapped trap) is (λ w. refl) tells)
-            same)
+        (is_over (ByTrap trap) (Trapped trap) is (λ w. refl) tells)
+        (counts_are (ByTrap trap) (Trapped trap) is (λ w. refl) tells)
+        same)
         refl (λ old new shown e. e)
 
     -- ---- faults
@@ -273,10 +271,10 @@ module _ (m : Program) (main : ℕ) (f : Function) (is_main : main_of m ≡ Some
           (transcript_is source0.left (steps + 1) _ on)
           (s.taken_are ∙ ap (λ l. l ++ source.left) (sym same) ∙ ap (λ (s' : SourceState). bytes_taken (w ++ ShowedByte byte ∷ []) ++ s'.left) (sym source_is))
           (λ told.
-              let part = puts.part (told_sink m rules main f steps machine machine1 tally tally' event source0 source sink0 sink going stepped told) in
-              let grown = part.2 ∙ ap (λ l. l ++ part.0) (s.put told) in
-              subst (λ v. HasPut (Ok end.WriteFault) v sink0.written sink'.written) (sym shown)
-              (bytes_shown w, byte, refl, one_or_none sink0.written sink'.written (bytes_shown w) byte part.0 part.1 grown part.3));
+          let part = puts.part (told_sink m rules main f steps machine machine1 tally tally' event source0 source sink0 sink going stepped told) in
+          let grown = part.2 ∙ ap (λ l. l ++ part.0) (s.put told) in
+          subst (λ v. HasPut (Ok end.WriteFault) v sink0.written sink'.written) (sym shown)
+          (bytes_shown w, byte, refl, one_or_none sink0.written sink'.written (bytes_shown w) byte part.0 part.1 grown part.3));
       source_faults = subst (λ (s : SourceState). source0.faults ≤ s.faults) (sym source_is) going.source_faults;
       source_tells = ap (λ (s : SourceState). s.tells) source_is ∙ going.source_tells;
       sink_faults = omega (arith, going.sink_faults, puts.faults);

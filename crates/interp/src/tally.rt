@@ -129,7 +129,12 @@ impl Tally {
     {
         let places = &self.places[function as usize];
         let counts = &mut self.counts[places.index];
-        let place = slot_place(places.starts.as_slice(), counts.slots.as_slice(), block, slot);
+        let place = slot_place(
+            places.starts.as_slice(),
+            counts.slots.as_slice(),
+            block,
+            slot,
+        );
         raise_at(&mut counts.slots, place);
     }
 
@@ -141,11 +146,8 @@ impl Tally {
         match event {
             Event::Entered(function) => self.enter(function),
             Event::Took(function, block, slot) => self.take(function, block, slot),
-            Event::Went
-            | Event::Wants
-            | Event::Shows(_)
-            | Event::Returned(_)
-            | Event::Trapped(_) => {}
+            Event::Went | Event::Wants | Event::Shows(_) | Event::Returned(_) | Event::Trapped(_) =>
+                {}
         }
     }
 

@@ -91,7 +91,7 @@ function_lines_push k (g ∷ fs) (d ∷ cs) f c h =
     shift : (k n : ℕ) → k + 1 + n ≡ k + suc n
     shift k n = omega arith
 
-function_outlines_of : (k : ℕ) (fs : List Function) (cs : List FnCounts) → AllZip HasSlots fs cs → map outline (function_lines k fs cs) ≡ function_outlines k fs
+pub function_outlines_of : (k : ℕ) (fs : List Function) (cs : List FnCounts) → AllZip HasSlots fs cs → map outline (function_lines k fs cs) ≡ function_outlines k fs
 function_outlines_of k [] cs h = refl
 function_outlines_of k (f ∷ fs) [] h = absurd h
 function_outlines_of k (f ∷ fs) (c ∷ cs) h =

@@ -7,3 +7,5 @@ pub mod Printed
 pub mod Summed
 pub mod Balancing
 pub mod Walks
+pub mod Read
+pub mod Answered

@@ -72,8 +72,8 @@ run_is bytes (n ∷ ns) rest h =
 
 -- ---- lines
 
-parts : (l : Line) (rest : List ℕ) → line_text l ++ rest ≡ word l ++ (spaced (numbers l) ++ 10 ∷ rest)
-parts l rest = append_assoc (word l) (spaced (numbers l) ++ codes "\n") rest ∙ ap (λ k. word l ++ k) (append_assoc (spaced (numbers l)) (codes "\n") rest)
+pub line_parts : (l : Line) (rest : List ℕ) → line_text l ++ rest ≡ word l ++ (spaced (numbers l) ++ 10 ∷ rest)
+line_parts l rest = append_assoc (word l) (spaced (numbers l) ++ codes "\n") rest ∙ ap (λ k. word l ++ k) (append_assoc (spaced (numbers l)) (codes "\n") rest)
 
 pub line_run : (l : Line) (rest : List ℕ) → Fits l → Run (spaced (numbers l) ++ 10 ∷ rest) (numbers l) (10 ∷ rest)
 line_run l rest fits = run_of (numbers l) (10 ∷ rest) fits refl
@@ -84,14 +84,14 @@ adds_line w bytes mid old new rest e a =
     record {
       line = a.line;
       fits = r.small;
-      text = e ∙ ap (λ k. k ++ mid) (sym a.is_word) ∙ ap (λ k. word a.line ++ k) r.text ∙ sym (parts a.line rest);
+      text = e ∙ ap (λ k. k ++ mid) (sym a.is_word) ∙ ap (λ k. word a.line ++ k) r.text ∙ sym (line_parts a.line rest);
       added = a.added;
     }
 
 pub no_line : (bytes : List ℕ) → ((l : Line) → Fits l → (rest : List ℕ) → bytes ≡ word l ++ (spaced (numbers l) ++ 10 ∷ rest) → ⊥) → ¬ (BeginsWithLine bytes)
-no_line bytes no' b = no' b.line b.fits b.rest (b.text ∙ parts b.line b.rest)
+no_line bytes no' b = no' b.line b.fits b.rest (b.text ∙ line_parts b.line b.rest)
 
-two_words : (x y : List ℕ) → codes "func" ++ x ≡ codes "block" ++ y → ⊥
+pub two_words : (x y : List ℕ) → codes "func" ++ x ≡ codes "block" ++ y → ⊥
 two_words x y e = let h : 102 ≡ 98 = ap (λ (l : List ℕ). get_or l 0 0) e in absurd (omega (arith, h))
 
 -- where a word stands and no line with it, no line stands

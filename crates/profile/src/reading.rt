@@ -2,11 +2,17 @@
 ghost use Rattle.std.specs.Prelude.{◌≡◌, ◌≤◌, ◌^◌, length, IfOk, IfErr};
 ghost use Rattle.profile.specs.Reading.{Reads, Refuses};
 
+use crate::checking::{check_all_reached, check_balances, total_of};
 use crate::counts::Profile;
+use crate::lines::read_lines;
+use crate::shapes::read_counts;
 use ir_types::module::Module;
 use mc_num::NoMemory;
 use std::alloc::{AllocError, Global};
 use thiserror::Error;
+
+/// The least sum of all counts that is too great.
+const LEAST_TOO_MANY: u128 = 1 << 62;
 
 /// Why a text is no profile of a module. Lines are counted from 1, functions that have blocks and blocks from 0.
 #[derive(Clone, Copy, Debug, PartialEq, Eq, Error)]
@@ -52,10 +58,25 @@ impl From<AllocError> for ProfileError {
 }
 
 /// The counts that a text says, if they are accepted.
-pub fn read_profile(alloc: Global, bytes: &[u8], program: &Module<'_>) -> Result<Profile, ProfileError>
+///
+/// The text is refused at the first line that is of no form, else at the first that isn't the module's, else at the first
+/// reached block out of balance, else at the first unreached block that is left, else for its sum. `NoMemory` where an
+/// allocation was refused.
+pub fn read_profile(
+    alloc: Global,
+    bytes: &[u8],
+    program: &Module<'_>,
+) -> Result<Profile, ProfileError>
     requires { length bytes.now ≤ 2 ^ 26 }
     ensures ok { IfOk result (λ p. Reads program.now bytes.now p.functions) }
     ensures err { IfErr result (λ e. Refuses program.now bytes.now e) }
 {
-    Err(ProfileError::NoMemory)
+    let lines = read_lines(alloc, bytes)?;
+    let functions = read_counts(alloc, program, lines.as_slice())?;
+    check_balances(alloc, program, functions.as_slice())?;
+    check_all_reached(alloc, program, functions.as_slice())?;
+    if total_of(functions.as_slice()) >= LEAST_TOO_MANY {
+        return Err(ProfileError::Total);
+    }
+    Ok(Profile { functions })
 }

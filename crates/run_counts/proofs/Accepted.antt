@@ -1,7 +1,7 @@
 -- The counts of a run that returned are accepted.
-use Rattle.std.proofs.Common.{◌≡◌, ℕ, zero, suc, ◌+◌, ◌^◌, ◌<◌, ◌≤◌, Bool, true, false, cond, List, [], ◌∷◌, ◌++◌, length, map, filter, Option, Some, None, refl, sym, ap, ◌∙◌, subst, arith, length-append}
-use Rattle.std.specs.Prelude.{sum_by, not, slice_get, slice_index, option_and_then, All, ⊤}
-use Rattle.std.specs.List.{AllZip, enumerate_from}
+use Rattle.std.proofs.Common.{◌≡◌, ℕ, suc, ◌+◌, ◌^◌, ◌<◌, Bool, true, false, cond, List, [], ◌∷◌, ◌++◌, length, map, filter, Some, refl, sym, ap, ◌∙◌, subst, arith}
+use Rattle.std.specs.Prelude.{not, slice_get, slice_index, option_and_then, All}
+use Rattle.std.specs.List.{AllZip}
 use Rattle.std.proofs.lemmas.Option.{get_or_from_slice_get, slice_get_within, slice_get-get_or}
 use Rattle.ir_types.specs.Program.{Program}
 use Rattle.ir_types.specs.Rules.{is_nil}
@@ -10,22 +10,21 @@ use Rattle.ir_types.specs.declared.syntax.Block.{Block}
 use Rattle.ir_types.specs.declared.syntax.Function.{Function}
 use Rattle.machines.specs.declared.events.Event.{Event}
 use Rattle.machines.specs.declared.events.Event.TheVariants.{Went, Took, Entered, Wants, Shows, Returned, Trapped}
-use Rattle.machines.specs.Runs.{Exchange, At, Over}
+use Rattle.machines.specs.Runs.{At}
 use Rattle.machines.specs.Events.{events_of}
-use Rattle.machines.specs.Meaning.{State, ByReturn}
+use Rattle.machines.specs.Meaning.{State}
 use Rattle.ir_machine.specs.Same.{start, is_defined}
-use Rattle.ir_machine.specs.Step.{frames_of, block_at, blocks_of}
-use Rattle.ir_machine.specs.Prof.{Counts, function_counts, counts_of}
+use Rattle.ir_machine.specs.Step.{frames_of, blocks_of}
+use Rattle.ir_machine.specs.Prof.{function_counts, counts_of}
 use Rattle.flow_graph.specs.Slots.{slots_of, next_block}
-use Rattle.flow_graph.specs.Paths.{IsPath, IsReached}
+use Rattle.flow_graph.specs.Paths.{IsPath}
 use Rattle.profile.specs.Counts.{AreCounts, IsAccepted, defined}
-use Rattle.run_counts.specs.Counted.{fn_counts, counts_after, run_after, AcceptsReturned}
-use Rattle.run_counts.proofs.Runs.{Every, moves, few_moves, run_conserves}
-use Rattle.run_counts.proofs.Conserved.{Place, place}
+use Rattle.run_counts.specs.Counted.{fn_counts, AcceptsReturned}
+use Rattle.run_counts.proofs.Runs.{Every, few_moves, run_conserves}
 use Rattle.run_counts.proofs.Reaching.{IsFound, Reaches, slot_at, run_found}
 use Rattle.run_counts.proofs.Placed.{at, target_in, targets_at, IsSlotIn, IsDefinedIn, IsEndIn, module_stands}
 use Rattle.run_counts.proofs.Tallied.{defined_from}
-use Rattle.run_counts.proofs.Balanced.{IsReachedIn, Gathered, are_counts, counts}
+use Rattle.run_counts.proofs.Balanced.{IsReachedIn, Gathered, are_counts}
 use Rattle.run_counts.proofs.Totals.{totals}
 
 -- ---- the counts of all functions
@@ -106,11 +105,15 @@ module _ (m : Program) (rules : IsWellFormed m) where
   pub module_reaches : Reaches (target_in m) (IsSlotIn m) (IsDefinedIn m) (IsReachedIn m)
   module_reaches = record {
     entry = λ f defined. (defined.0, defined.1, record { inside = entry_inside defined.0.blocks defined.2; path = []; leads = refl });
-    leads = λ f b s slot reached. (reached.0, reached.1, record {
-      inside = target_inside reached.0 f b s reached.1 slot;
-      path = reached.2.path ++ s ∷ [];
-      leads = path_on m reached.0 0 reached.2.path b s (target_in m f b s) reached.2.leads (leads_on reached.0 f b s reached.1 slot);
-    });
+    leads = λ f b s slot reached. (
+      reached.0,
+      reached.1,
+      record {
+        inside = target_inside reached.0 f b s reached.1 slot;
+        path = reached.2.path ++ s ∷ [];
+        leads = path_on m reached.0 0 reached.2.path b s (target_in m f b s) reached.2.leads (leads_on reached.0 f b s reached.1 slot);
+      },
+    );
   }
 
 pub accepts_returned : AcceptsReturned

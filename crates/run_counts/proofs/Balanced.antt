@@ -1,8 +1,8 @@
 -- The counts of a run that returned are balanced.
-use Rattle.std.proofs.Common.{◌≡◌, ℕ, zero, suc, ◌+◌, ◌-◌, ◌^◌, ◌<◌, ◌≤◌, Bool, true, false, cond, eqb, eq-eqb, List, [], ◌∷◌, ◌++◌, length, map, Option, Some, None, refl, sym, ap, ◌∙◌, subst, arith}
-use Rattle.std.specs.Prelude.{IsTrue, sum, sum_by, count_by, not, slice_get, slice_index, ◌==◌, ◌&&◌, ◌↔◌}
+use Rattle.std.proofs.Common.{◌≡◌, ℕ, ◌+◌, ◌^◌, ◌<◌, Bool, true, false, cond, List, [], ◌∷◌, length, map, Option, Some, refl, sym, ap, ◌∙◌, subst, arith}
+use Rattle.std.specs.Prelude.{IsTrue, sum_by, not, slice_get, slice_index, ◌==◌, ◌&&◌}
 use Rattle.std.specs.Option.{option_map_or}
-use Rattle.std.specs.List.{zip, AllZip}
+use Rattle.std.specs.List.{zip}
 use Rattle.std.proofs.lemmas.Bool.{eqb-true}
 use Rattle.std.proofs.lemmas.Option.{get_or_from_slice_get}
 use Rattle.std.proofs.lemmas.List.Sums.{sum_by-cons}
@@ -12,13 +12,12 @@ use Rattle.ir_types.specs.declared.syntax.Block.{Block}
 use Rattle.ir_types.specs.declared.syntax.Function.{Function}
 use Rattle.machines.specs.declared.events.Event.{Event}
 use Rattle.machines.specs.declared.events.Event.TheVariants.{Went, Took, Entered, Wants, Shows, Returned, Trapped}
-use Rattle.machines.specs.Acts.{Slot}
 use Rattle.ir_machine.specs.Step.{block_at, blocks_of}
-use Rattle.ir_machine.specs.Prof.{Counts, entries, takings, is_entry, slot_takings, function_counts, counts_of}
+use Rattle.ir_machine.specs.Prof.{entries, takings, is_entry, function_counts}
 use Rattle.flow_graph.specs.Slots.{slots_of, slots}
 use Rattle.flow_graph.specs.Paths.{IsReached, AreReached}
 use Rattle.profile.specs.declared.counts.FnCounts.{FnCounts}
-use Rattle.profile.specs.Counts.{HasSlots, counted, entering, leaving, goes_on, is_return, IsBalanced, IsUnreachedZero, AreCounts}
+use Rattle.profile.specs.Counts.{HasSlots, counted, entering, leaving, goes_on, is_return, AreCounts}
 use Rattle.run_counts.specs.Counted.{fn_counts}
 use Rattle.run_counts.proofs.Runs.{Every, moves}
 use Rattle.run_counts.proofs.Conserved.{Place, place, entering_by, leaving_by}
@@ -135,8 +134,8 @@ module _ (m : Program) (i : ℕ) (f : Function) (there : slice_get m.functions i
     pub no_end : IsTrue (goes_on f b) → (p : Place) → IsEndIn m p → weight_of p ≡ 0
     no_end goes p end =
         elim (p.function == i) as (λ t. (p.function == i) ≡ t → ◌≡◌ {A = ℕ} (cond t (cond (p.block == b) 1 0) 0) 0) [
-          true ↦ (λ e. elim (p.block == b) as (λ t. (p.block == b) ≡ t → ◌≡◌ {A = ℕ} (cond t 1 0) 0) [
-            true ↦ (λ e'.
+          | true ↦ (λ e. elim (p.block == b) as (λ t. (p.block == b) ≡ t → ◌≡◌ {A = ℕ} (cond t 1 0) 0) [
+            | true ↦ (λ e'.
                 let at : slice_get f.blocks b ≡ Some end.0 = sym (block_is b) ∙ ap (λ k. block_at m k b) (sym (eqb-true p.function i e)) ∙ ap (block_at m p.function) (sym (eqb-true p.block b e')) ∙ end.1 in
                 let no_return : goes_on f b ≡ false = ap (λ o. option_map_or (λ (x : Block). not (is_return x.term)) o false) at ∙ ap not end.2 in
                 let wrong : false ≡ true = subst IsTrue no_return goes in absurd (cc wrong))
@@ -149,8 +148,8 @@ module _ (m : Program) (i : ℕ) (f : Function) (there : slice_get m.functions i
     nothing_leaves : (IsReached f b → ⊥) → (e : Event) → Known e → leaving_by (target_in m) weight_of e ≡ 0
     nothing_leaves unreached (Took g b' s) known =
         elim (g == i) as (λ t. (g == i) ≡ t → ◌≡◌ {A = ℕ} (cond t (cond (b' == b) 1 0) 0) 0) [
-          true ↦ (λ e. elim (b' == b) as (λ t. (b' == b) ≡ t → ◌≡◌ {A = ℕ} (cond t 1 0) 0) [
-            true ↦ (λ e'.
+          | true ↦ (λ e. elim (b' == b) as (λ t. (b' == b) ≡ t → ◌≡◌ {A = ℕ} (cond t 1 0) 0) [
+            | true ↦ (λ e'.
                 let r = known.1 in
                 let same : r.0 ≡ f = same_some r.0 f (slice_get m.functions i) (ap (slice_get m.functions) (sym (eqb-true g i e)) ∙ r.1) there in
                 absurd (unreached (subst (IsReached f) (eqb-true b' b e') (subst (λ h. IsReached h b') same r.2))))
@@ -190,7 +189,7 @@ module _ (m : Program) (i : ℕ) (f : Function) (there : slice_get m.functions i
       enters_alike : (e : Event) → Known e → enters_by e ≡ entering_by (target_in m) weight_of e
       enters_alike (Took g b' s) known =
           zero_left (picked_by into (Took g b' s)) ∙ elim (g == i) as (λ t. (g == i) ≡ t → ◌≡◌ {A = ℕ} (cond t (cond (into (b', s)) 1 0) 0) (cond t (cond (target_in m g b' s == b) 1 0) 0)) [
-            true ↦ (λ e.
+            | true ↦ (λ e.
                 let r = known.1 in
                 let g_is = eqb-true g i e in
                 let same : r.0 ≡ f = same_some r.0 f (slice_get m.functions i) (ap (slice_get m.functions) (sym g_is) ∙ r.1) there in

@@ -1,10 +1,10 @@
 -- What enters a block leaves it, or stands in it still.
-use Rattle.std.proofs.Common.{◌≡◌, ℕ, zero, suc, ◌+◌, ◌<◌, ◌≤◌, List, [], ◌∷◌, ◌++◌, Option, Some, None, refl, sym, ap, ◌∙◌, subst, arith, All}
+use Rattle.std.proofs.Common.{◌≡◌, ℕ, ◌+◌, List, [], ◌∷◌, Option, Some, None, refl, ap, arith}
 use Rattle.std.specs.Prelude.{sum_by}
 use Rattle.std.proofs.lemmas.List.Sums.{sum_by-cons}
 use Rattle.machines.specs.declared.events.Event.{Event}
 use Rattle.machines.specs.declared.events.Event.TheVariants.{Went, Took, Entered, Wants, Shows, Returned, Trapped}
-use Rattle.machines.specs.Acts.{Act, Slot, Goes, Calls, Reads, Writes, Returns, Traps, Frames, Running, Turn, acted, turn, got}
+use Rattle.machines.specs.Acts.{Act, Slot, Goes, Calls, Reads, Writes, Returns, Traps, Frames, Running, Turn, acted, turn}
 
 -- a block of a function
 pub record Place : Type 0 where

@@ -1,5 +1,5 @@
 -- The slots of a function, each with its count.
-use Rattle.std.proofs.Common.{◌≡◌, ℕ, zero, suc, ◌+◌, ◌<◌, List, [], ◌∷◌, ◌++◌, length, map, Option, Some, None, refl, sym, ap, ◌∙◌, subst, arith, length-append}
+use Rattle.std.proofs.Common.{◌≡◌, ℕ, suc, ◌+◌, List, [], ◌∷◌, ◌++◌, length, map, Some, refl, sym, ap, ◌∙◌, arith, length-append}
 use Rattle.std.specs.Prelude.{slice_get}
 use Rattle.std.specs.List.{zip, range_with_len}
 use Rattle.std.proofs.lemmas.List.FromFn.{length-range_with_len}
@@ -47,12 +47,12 @@ module _ (target : ℕ → ℕ → ℕ) (count : ℕ × ℕ → ℕ) where
       let keys = keys_of i 0 (length ts) in
       let later = keys_from (i + 1) blocks in
       let len : length own ≡ length (map count keys) =
-          length-map (λ t. (i, t)) ts ∙ sym (length-map count keys ∙ length-map (λ s. (i, s)) (range_with_len 0 (length ts)) ∙ length-range_with_len 0 (length ts))
+      length-map (λ t. (i, t)) ts ∙ sym (length-map count keys ∙ length-map (λ s. (i, s)) (range_with_len 0 (length ts)) ∙ length-range_with_len 0 (length ts))
       in
       let here = block_exits i 0 ts (λ s t there.
-          let z : 0 + s ≡ s = omega arith in
-          let w : i + 0 ≡ i = omega arith in
-          ap (target i) z ∙ ap (λ k. target k s) (sym w) ∙ leads 0 s t b refl there) in
+      let z : 0 + s ≡ s = omega arith in
+      let w : i + 0 ≡ i = omega arith in
+      ap (target i) z ∙ ap (λ k. target k s) (sym w) ∙ leads 0 s t b refl there) in
       let rest = exits_from (i + 1) blocks (λ j s t block there slot. let f : (i + 1) + j ≡ i + suc j = omega arith in ap (λ k. target k s) f ∙ leads (suc j) s t block there slot) in
       ap (λ k. zip (own ++ slots_from (i + 1) blocks) (map count (keys_of i 0 k ++ later))) n
       ∙ ap (zip (own ++ slots_from (i + 1) blocks)) (map-append count keys later)

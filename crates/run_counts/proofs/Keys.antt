@@ -1,14 +1,14 @@
 -- The slots of a function by their numbers, and where each stands.
-use Rattle.std.proofs.Common.{◌≡◌, ℕ, zero, suc, ◌+◌, ◌-◌, ◌<◌, ◌≤◌, Bool, true, false, eqb, eq-eqb, List, [], ◌∷◌, ◌++◌, length, map, take, filter, Option, Some, None, refl, sym, ap, ◌∙◌, subst, arith, append_assoc, length-append}
+use Rattle.std.proofs.Common.{◌≡◌, ℕ, zero, suc, ◌+◌, ◌<◌, Bool, true, false, eqb, eq-eqb, List, [], ◌∷◌, ◌++◌, length, map, take, Some, refl, sym, ap, ◌∙◌, subst, arith}
 use Rattle.std.specs.Prelude.{sum_by, slice_get, ◌==◌, ◌&&◌}
-use Rattle.std.specs.List.{enumerate_from, range_with_len}
+use Rattle.std.specs.List.{range_with_len}
 use Rattle.std.proofs.lemmas.Bool.{eqb-true, false_from_ne_true}
 use Rattle.std.proofs.lemmas.List.Sums.{sum_by-cons}
 use Rattle.std.proofs.lemmas.List.FromFn.{length-range_with_len}
 use Rattle.ir_types.specs.Limits.{slot_count}
 use Rattle.ir_types.specs.declared.syntax.Block.{Block}
 use Rattle.run_counts.proofs.Runs.{Every}
-use Rattle.run_counts.proofs.Splits.{Split, split_before, split_behind, every_append, map-append, length-map}
+use Rattle.run_counts.proofs.Splits.{Split, split_before, split_behind, every_append, length-map}
 
 abbrev pub keys_of : ℕ → ℕ → ℕ → List (ℕ × ℕ)
 keys_of block from n = map (λ s. (block, s)) (range_with_len from n)
@@ -83,7 +83,7 @@ slot_splits block from (suc n) (suc s) lt =
     let a = slot_splits block (from + 1) n s (omega arith) in
     let b = subst (λ k. Split (is_key block k) (keys_of block (from + 1) n) s (block, k)) e a in
     let c = split_before (is_key block (from + suc s)) ((block, from) ∷ []) (keys_of block (from + 1) n) s (block, from + suc s)
-        (false_right (eqb block block) (eqb (from + suc s) from) (ne_eqb (from + suc s) from (λ e. absurd (omega arith))), tt) b in
+    (false_right (eqb block block) (eqb (from + suc s) from) (ne_eqb (from + suc s) from (λ e. absurd (omega arith))), tt) b in
     subst (λ at. Split (is_key block (from + suc s)) (keys_of block from (suc n)) at (block, from + suc s)) f c
 
 -- a slot of the j-th block stands behind the slots of the blocks before it
@@ -106,7 +106,7 @@ key_splits i (b ∷ blocks) (suc j) s block there lt =
     let a = key_splits (i + 1) blocks j s block there lt in
     let a' = subst (λ k. Split (is_key k s) (keys_from (i + 1) blocks) (slots_before blocks j + s) (k, s)) e a in
     let c = split_before (is_key (i + suc j) s) (keys_of i 0 n) (keys_from (i + 1) blocks) (slots_before blocks j + s) (i + suc j, s)
-        (other_block (i + suc j) s i 0 n (λ e. absurd (omega arith))) a' in
+    (other_block (i + suc j) s i 0 n (λ e. absurd (omega arith))) a' in
     let len : length (keys_of i 0 n) ≡ n = length-map (λ s. (i, s)) (range_with_len 0 n) ∙ length-range_with_len 0 n in
     let sum : slots_before (b ∷ blocks) (suc j) ≡ slot_count b.term + slots_before blocks j = sum_by-cons (λ b. slot_count b.term) b (take j blocks) in
     let f : length (keys_of i 0 n) + (slots_before blocks j + s) ≡ slots_before (b ∷ blocks) (suc j) + s = omega (arith, len, sum) in

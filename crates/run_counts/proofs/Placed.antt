@@ -1,10 +1,9 @@
 -- How the frames of a module move from block to block.
-use Rattle.std.proofs.Common.{◌≡◌, ℕ, zero, suc, ◌+◌, ◌<◌, ◌≤◌, Bool, true, false, cond, List, [], ◌∷◌, ◌++◌, length, map, Option, Some, None, Result, Ok, Err, refl, sym, ap, ◌∙◌, subst, arith, append_assoc, length-append}
+use Rattle.std.proofs.Common.{◌≡◌, ℕ, zero, suc, ◌<◌, Bool, true, false, List, [], ◌∷◌, ◌++◌, length, map, Option, Some, None, Result, Ok, Err, refl, sym, ap, ◌∙◌, subst, arith, append_assoc, length-append}
 use Rattle.std.specs.Prelude.{slice_get, slice_index, ◌==◌, if◌then◌else◌}
 use Rattle.std.proofs.Math.Seq.{get_or-append_seam}
 use Rattle.mc_num.specs.declared.op.Trap.{Trap}
 use Rattle.ir_types.specs.Program.{Program}
-use Rattle.ir_types.specs.declared.syntax.Variable.{Variable}
 use Rattle.ir_types.specs.declared.syntax.Variable.TheVariants.{Local, Global}
 use Rattle.ir_types.specs.declared.syntax.Kind.{Kind}
 use Rattle.ir_types.specs.declared.syntax.Kind.TheVariants.{Load, Store, Compute, Call}
@@ -91,7 +90,7 @@ module _ (m : Program) (frame : Frame) (globals : Globals) where
         let lt : slot < length (slots_of block.term) = omega (arith, ap length e, length-append front (case.1 ∷ rest), len) in
         let at : slice_index (slots_of block.term) slot ≡ case.1 = ap (λ l. slice_index l slot) e ∙ ap (λ k. slice_index (front ++ case.1 ∷ rest) k) (sym len) ∙ get_or-append_seam front case.1 rest 0 in
         elim (case.0 == value) as (λ b. IsMove m frame (if b then takes slot case.1 globals frame else switched value (suc slot) other cases globals frame)) [
-          true ↦ takes_moves slot case.1 lt at
+          | true ↦ takes_moves slot case.1 lt at
           | false ↦ switched_moves value other first at_first (suc slot) (front ++ case.1 ∷ []) cases n e'
         ]
 

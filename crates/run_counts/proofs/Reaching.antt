@@ -1,10 +1,10 @@
 -- Frames stand where paths lead, so the events of a run do.
-use Rattle.std.proofs.Common.{◌≡◌, ℕ, zero, suc, ◌-◌, ◌^◌, List, [], ◌∷◌, Option, Some, None, refl, sym, subst}
+use Rattle.std.proofs.Common.{◌≡◌, ℕ, zero, suc, ◌-◌, ◌^◌, List, [], ◌∷◌, Some, None, refl, sym, subst}
 use Rattle.machines.specs.declared.events.Event.{Event}
 use Rattle.machines.specs.declared.events.Event.TheVariants.{Went, Took, Entered, Wants, Shows, Returned, Trapped}
-use Rattle.machines.specs.Runs.{Exchange, Progress, At, Over}
+use Rattle.machines.specs.Runs.{Exchange, At}
 use Rattle.machines.specs.Acts.{Act, Slot, Goes, Calls, Reads, Writes, Returns, Traps, Frames, Running, Turn, acted, turn, got}
-use Rattle.machines.specs.Meaning.{State, state, End, ByReturn, ByTrap, effect_of, followed}
+use Rattle.machines.specs.Meaning.{State, ByReturn, ByTrap, effect_of, followed}
 use Rattle.machines.specs.Events.{events_of}
 use Rattle.run_counts.proofs.Conserved.{Place, place, Stands}
 use Rattle.run_counts.proofs.Runs.{Every, over_events}

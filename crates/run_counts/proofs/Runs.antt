@@ -1,15 +1,15 @@
 -- The events of a whole run.
-use Rattle.std.proofs.Common.{◌≡◌, ℕ, zero, suc, ◌+◌, ◌-◌, ◌^◌, ◌<◌, ◌≤◌, List, [], ◌∷◌, ◌++◌, Option, Some, None, refl, sym, ap, ◌∙◌, subst, arith}
+use Rattle.std.proofs.Common.{◌≡◌, ℕ, zero, suc, ◌+◌, ◌-◌, ◌^◌, ◌<◌, List, [], ◌∷◌, Option, Some, refl, ap, arith}
 use Rattle.std.specs.Prelude.{sum_by}
 use Rattle.std.proofs.lemmas.List.Sums.{sum_by-cons}
 use Rattle.machines.specs.declared.events.Event.{Event}
 use Rattle.machines.specs.declared.events.Event.TheVariants.{Went, Took, Entered, Wants, Shows, Returned, Trapped}
 use Rattle.machines.specs.Runs.{Exchange, Progress, At, Over, after}
-use Rattle.machines.specs.Acts.{Act, Slot, Frames, Running, Turn, acted, turn, got}
-use Rattle.machines.specs.Meaning.{State, state, End, ByReturn, ByTrap, machine_of, effect_of, followed}
+use Rattle.machines.specs.Acts.{Slot, Frames, Running, turn, got}
+use Rattle.machines.specs.Meaning.{State, End, ByReturn, ByTrap, machine_of, effect_of, followed}
 use Rattle.machines.specs.Events.{events_of}
 use Rattle.machines.proofs.Lockstep.{after_over}
-use Rattle.run_counts.proofs.Conserved.{Place, place, Stands, entering_by, leaving_by, standing, turn_conserves, turn_ends}
+use Rattle.run_counts.proofs.Conserved.{Place, Stands, entering_by, leaving_by, standing, turn_conserves, turn_ends}
 
 -- how many slots an event takes and functions it enters
 abbrev pub moves : Event → ℕ

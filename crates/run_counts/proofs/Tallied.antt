@@ -1,15 +1,14 @@
 -- What one event more does to the counts.
-use Rattle.std.proofs.Common.{◌≡◌, ℕ, zero, suc, ◌+◌, ◌-◌, ◌<◌, ◌≤◌, Bool, true, false, cond, eqb, eq-eqb, List, [], ◌∷◌, ◌++◌, length, map, take, filter, Option, Some, None, refl, sym, ap, ◌∙◌, subst, arith}
+use Rattle.std.proofs.Common.{◌≡◌, ℕ, zero, suc, ◌+◌, ◌<◌, Bool, true, false, cond, eq-eqb, List, [], ◌∷◌, ◌++◌, length, map, take, filter, Some, refl, sym, ap, ◌∙◌, subst, arith}
 use Rattle.std.specs.Prelude.{count_by, slice_get, slice_set, ◌==◌, ◌&&◌, flat_map, if◌then◌else◌}
 use Rattle.std.specs.List.{enumerate_from, range_with_len}
-use Rattle.std.proofs.lemmas.Bool.{eqb-true}
 use Rattle.std.proofs.lemmas.List.Sums.{sum_by-cons, sum_by_push}
 use Rattle.ir_types.specs.Limits.{slot_count}
 use Rattle.ir_types.specs.Program.{Program}
 use Rattle.ir_types.specs.declared.syntax.Block.{Block}
 use Rattle.ir_types.specs.declared.syntax.Function.{Function}
 use Rattle.machines.specs.declared.events.Event.{Event}
-use Rattle.machines.specs.declared.events.Event.TheVariants.{Went, Took, Entered, Wants, Shows, Returned, Trapped}
+use Rattle.machines.specs.declared.events.Event.TheVariants.{Took, Entered}
 use Rattle.ir_machine.specs.Same.{is_defined}
 use Rattle.ir_machine.specs.Prof.{Counts, entries, takings, is_entry, is_taking, slot_takings, function_counts, counts_of}
 use Rattle.run_counts.proofs.Runs.{Every}
@@ -66,7 +65,7 @@ later_functions : (i from : ℕ) (fs : List Function) → i < from → Every (λ
 later_functions i from [] lt = tt
 later_functions i from (f ∷ fs) lt =
     elim (is_defined f.blocks) as (λ b. Every (λ x. is_number i x ≡ false) (cond b ((from, f) ∷ defined_from (from + 1) fs) (defined_from (from + 1) fs))) [
-      true ↦ (ne_eqb i from (λ e. absurd (omega arith)), later_functions i (from + 1) fs (omega arith))
+      | true ↦ (ne_eqb i from (λ e. absurd (omega arith)), later_functions i (from + 1) fs (omega arith))
       | false ↦ later_functions i (from + 1) fs (omega arith)
     ]
 

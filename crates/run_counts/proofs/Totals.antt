@@ -1,23 +1,18 @@
 -- All counts together are no more than the steps.
-use Rattle.std.proofs.Common.{◌≡◌, ℕ, zero, suc, ◌+◌, ◌^◌, ◌<◌, ◌≤◌, Bool, true, false, cond, eqb, eq-eqb, List, [], ◌∷◌, length, map, Option, Some, None, refl, sym, ap, ◌∙◌, subst, arith}
-use Rattle.std.specs.Prelude.{sum, sum_by, slice_get, ◌==◌, ◌&&◌}
-use Rattle.std.proofs.lemmas.Bool.{eqb-true}
+use Rattle.std.proofs.Common.{◌≡◌, ℕ, ◌+◌, Bool, true, false, cond, eq-eqb, List, [], ◌∷◌, map, Option, Some, None, refl, sym, ap, ◌∙◌, subst, arith}
+use Rattle.std.specs.Prelude.{sum, sum_by, slice_get, ◌==◌}
 use Rattle.std.proofs.lemmas.List.Sums.{sum_by-cons, sum-map}
 use Rattle.ir_types.specs.Program.{Program}
-use Rattle.ir_types.specs.Limits.{slot_count}
 use Rattle.ir_types.specs.declared.syntax.Block.{Block}
 use Rattle.ir_types.specs.declared.syntax.Function.{Function}
 use Rattle.machines.specs.declared.events.Event.{Event}
 use Rattle.machines.specs.declared.events.Event.TheVariants.{Went, Took, Entered, Wants, Shows, Returned, Trapped}
-use Rattle.machines.specs.Acts.{Slot}
 use Rattle.ir_machine.specs.Same.{is_defined}
-use Rattle.ir_machine.specs.Step.{block_at, blocks_of}
-use Rattle.ir_machine.specs.Prof.{Counts, entries, takings, is_entry, is_taking, slot_takings, function_counts, counts_of}
-use Rattle.profile.specs.declared.counts.FnCounts.{FnCounts}
+use Rattle.ir_machine.specs.Step.{blocks_of}
+use Rattle.ir_machine.specs.Prof.{entries, takings, is_entry, is_taking, function_counts, counts_of}
 use Rattle.profile.specs.Counts.{total}
 use Rattle.run_counts.specs.Counted.{fn_counts}
 use Rattle.run_counts.proofs.Runs.{Every, moves}
-use Rattle.run_counts.proofs.Conserved.{Place, place}
 use Rattle.run_counts.proofs.Reaching.{IsFound, slot_at}
 use Rattle.run_counts.proofs.Placed.{IsSlotIn, IsDefinedIn}
 use Rattle.run_counts.proofs.Keys.{keys_from, is_key}
@@ -72,10 +67,10 @@ module _ (m : Program) (main : ℕ) (first : IsDefinedIn m main) where
   adds_none : (e : Event) → ((i : ℕ) → is_entry i e ≡ false) → ((i b s : ℕ) → is_taking i b s e ≡ false) → sum_by (adds e) here ≡ 0
   adds_none e no_entry no_taking =
       sum_by-none (adds e) (λ x.
-          let picked : Bool → ℕ = λ t. cond t 1 0 in
-          let a : picked (is_entry x.0 e) ≡ 0 = ap picked (no_entry x.0) in
-          let b = added-none (keys_from 0 x.1.blocks) x.0 all e (λ k. no_taking x.0 k.0 k.1) in
-          omega (arith, a, b)) here
+      let picked : Bool → ℕ = λ t. cond t 1 0 in
+      let a : picked (is_entry x.0 e) ≡ 0 = ap picked (no_entry x.0) in
+      let b = added-none (keys_from 0 x.1.blocks) x.0 all e (λ k. no_taking x.0 k.0 k.1) in
+      omega (arith, a, b)) here
 
   adds_moves : (e : Event) → IsFound (IsSlotIn m) (IsDefinedIn m) (λ p. Unit {0}) e → sum_by (adds e) here ≡ moves e
   adds_moves (Took g b s) known =
@@ -104,10 +99,10 @@ module _ (m : Program) (main : ℕ) (first : IsDefinedIn m main) where
   totals_all : (events : List Event) → Every (IsFound (IsSlotIn m) (IsDefinedIn m) (λ p. Unit {0})) events → sum_by (total_of events) here ≡ sum_by moves events + 1
   totals_all [] known =
       let same : (x : ℕ × Function) → total_of [] x ≡ cond (main == x.0) 1 0 = λ x. (
-          let a = weighed-none (keys_from 0 x.1.blocks) x.0 all in
-          let picked : Bool → ℕ = λ t. cond t 1 0 in
-          let b : picked (x.0 == main) ≡ picked (main == x.0) = ap picked (eqb_sym x.0 main) in
-          omega (arith, a, b)) in
+      let a = weighed-none (keys_from 0 x.1.blocks) x.0 all in
+      let picked : Bool → ℕ = λ t. cond t 1 0 in
+      let b : picked (x.0 == main) ≡ picked (main == x.0) = ap picked (eqb_sym x.0 main) in
+      omega (arith, a, b)) in
       sum_by-same (total_of []) (λ x. cond (main == x.0) 1 0) same here
       ∙ sum_one (is_number main) (λ x. 1) here (defined_before m.functions main) (main, first.0) (split_of main first.0 first.1 first.2)
   totals_all (e ∷ events) known =

@@ -1,16 +1,15 @@
 -- A run by its steps, whatever bytes it was given: what is known of its events so far.
-use Rattle.std.proofs.Common.{◌≡◌, ℕ, zero, suc, ◌+◌, ◌^◌, ◌<◌, ◌≤◌, List, [], ◌∷◌, ◌++◌, length, true, Option, Some, refl, sym, ap, ◌∙◌, subst, arith, length-append}
+use Rattle.std.proofs.Common.{◌≡◌, ℕ, ◌+◌, ◌^◌, ◌<◌, ◌≤◌, List, [], ◌∷◌, ◌++◌, length, true, Option, sym, ap, subst, arith}
 use Rattle.std.specs.Prelude.{sum_by}
 use Rattle.std.proofs.lemmas.List.Sums.{sum_by-cons, sum_by_push}
 use Rattle.ir_types.specs.Program.{Program}
 use Rattle.ir_types.specs.WellFormed.{IsWellFormed}
-use Rattle.ir_types.specs.declared.syntax.Function.{Function}
 use Rattle.machines.specs.declared.events.Event.{Event}
 use Rattle.machines.specs.declared.events.Event.TheVariants.{Went, Took, Entered, Wants, Shows, Returned, Trapped}
 use Rattle.machines.specs.Acts.{Running, turn, got}
 use Rattle.ir_machine.specs.declared.frame.Frame.{Frame}
-use Rattle.ir_machine.specs.Step.{Globals, frames_of, first_frame}
-use Rattle.run_counts.proofs.Runs.{Every, moves, got_stood}
+use Rattle.ir_machine.specs.Step.{Globals, frames_of}
+use Rattle.run_counts.proofs.Runs.{Every, moves}
 use Rattle.run_counts.proofs.Conserved.{Place, place, entering_by, leaving_by, turn_conserves, turn_ends}
 use Rattle.run_counts.proofs.Reaching.{IsFound, AllReached, turn_found, got_reached}
 use Rattle.run_counts.proofs.Placed.{at, target_in, IsSlotIn, IsDefinedIn, IsEndIn, module_stands}
@@ -73,14 +72,14 @@ module _ (m : Program) (rules : IsWellFormed m) (main : ℕ) where
       let b = few_moves events in
       let c = one_at_most e in
       omega arith where
-    one_at_most : (e : Event) → moves e ≤ 1
-    one_at_most (Took f b s) = omega arith
-    one_at_most (Entered f) = omega arith
-    one_at_most Went = omega arith
-    one_at_most Wants = omega arith
-    one_at_most (Shows byte) = omega arith
-    one_at_most (Returned value) = omega arith
-    one_at_most (Trapped trap) = omega arith
+        one_at_most : (e : Event) → moves e ≤ 1
+        one_at_most (Took f b s) = omega arith
+        one_at_most (Entered f) = omega arith
+        one_at_most Went = omega arith
+        one_at_most Wants = omega arith
+        one_at_most (Shows byte) = omega arith
+        one_at_most (Returned value) = omega arith
+        one_at_most (Trapped trap) = omega arith
 
   -- the last frame returned
   pub walk_ends : (events : List Event) (running : Running Frame Globals) (value : Option ℕ) → (turn (frames_of m) running).event ≡ Returned value → length events + 1 < 2 ^ 62 → Walked m rules main events running → Gathered m main (events ++ Returned value ∷ [])

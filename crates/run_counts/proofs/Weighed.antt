@@ -1,12 +1,12 @@
 -- Counts summed over the slots of a function, as a sum over the events.
-use Rattle.std.proofs.Common.{◌≡◌, ℕ, zero, suc, ◌+◌, ◌<◌, Bool, true, false, cond, eqb, eq-eqb, List, [], ◌∷◌, length, map, Option, Some, None, refl, sym, ap, ◌∙◌, subst, arith}
-use Rattle.std.specs.Prelude.{sum, sum_by, slice_get, ◌==◌, ◌&&◌}
+use Rattle.std.proofs.Common.{◌≡◌, ℕ, ◌+◌, ◌<◌, Bool, true, false, cond, eqb, eq-eqb, List, [], ◌∷◌, map, Some, refl, sym, ap, ◌∙◌, subst, arith}
+use Rattle.std.specs.Prelude.{sum_by, slice_get, ◌==◌, ◌&&◌}
 use Rattle.std.proofs.lemmas.Bool.{eqb-true, eqb-false, false_from_ne_true}
 use Rattle.std.proofs.lemmas.List.Sums.{sum_by-cons}
 use Rattle.ir_types.specs.Limits.{slot_count}
 use Rattle.ir_types.specs.declared.syntax.Block.{Block}
 use Rattle.machines.specs.declared.events.Event.{Event}
-use Rattle.machines.specs.declared.events.Event.TheVariants.{Went, Took, Entered, Wants, Shows, Returned, Trapped}
+use Rattle.machines.specs.declared.events.Event.TheVariants.{Took}
 use Rattle.ir_machine.specs.Prof.{takings, is_taking}
 use Rattle.run_counts.proofs.Splits.{Split, sum_one}
 use Rattle.run_counts.proofs.Keys.{keys_from, is_key, slots_before, key_splits}
@@ -14,7 +14,7 @@ use Rattle.run_counts.proofs.Keys.{keys_from, is_key, slots_before, key_splits}
 pub eqb_sym : (a b : ℕ) → eqb a b ≡ eqb b a
 eqb_sym a b =
     elim (eqb a b) as (λ t. eqb a b ≡ t → t ≡ eqb b a) [
-      true ↦ (λ e. sym (eq-eqb b a (sym (eqb-true a b e))))
+      | true ↦ (λ e. sym (eq-eqb b a (sym (eqb-true a b e))))
       | false ↦ (λ e. sym (false_from_ne_true (eqb b a) (λ t. eqb-false a b e (sym (eqb-true b a t)))))
     ] refl
 
@@ -95,7 +95,7 @@ module _ (keys : List (ℕ × ℕ)) (function : ℕ) (picks : ℕ × ℕ → Boo
   pub added-took : (g b s : ℕ) → added (Took g b s) ≡ cond (g == function) (sum_by (λ k. cond (is_key b s k) (cond (picks k) 1 0) 0) keys) 0
   added-took g b s =
       elim (g == function) as (λ t. (g == function) ≡ t → added (Took g b s) ≡ cond t (sum_by (λ k. cond (is_key b s k) (cond (picks k) 1 0) 0) keys) 0) [
-        true ↦ (λ e. sum_by-same _ _ (λ k. ap (λ t. cond (picks k) (cond t 1 0) 0) (and_both (g == function) (b == k.0) (s == k.1) ∙ ap (λ t. t && is_key b s k) e) ∙ cond_swap (picks k) (is_key b s k) 1) keys)
+        | true ↦ (λ e. sum_by-same _ _ (λ k. ap (λ t. cond (picks k) (cond t 1 0) 0) (and_both (g == function) (b == k.0) (s == k.1) ∙ ap (λ t. t && is_key b s k) e) ∙ cond_swap (picks k) (is_key b s k) 1) keys)
         | false ↦ (λ e. added-none (Took g b s) (λ k. and_both (g == function) (b == k.0) (s == k.1) ∙ ap (λ t. t && is_key b s k) e))
       ] refl
 
@@ -104,7 +104,7 @@ pub added_one : (blocks : List Block) (function : ℕ) (picks : ℕ × ℕ → B
 added_one blocks function picks g b s has =
     added-took (keys_from 0 blocks) function picks g b s
     ∙ elim (g == function) as (λ t. (g == function) ≡ t → cond t (sum_by (λ k. cond (is_key b s k) (cond (picks k) 1 0) 0) (keys_from 0 blocks)) 0 ≡ cond t (cond (picks (b, s)) 1 0) 0) [
-      true ↦ (λ e.
+      | true ↦ (λ e.
           let a = has (eqb-true g function e) in
           let z : 0 + b ≡ b = omega arith in
           let split = key_splits 0 blocks b s a.0 a.1 a.2 in

@@ -7,5 +7,4 @@ ghost use Rattle.run_counts.specs.Counted.{AcceptsReturned};
 /// returns, nothing leaves a block that no path meets, and all counts together are no more than the steps.
 pub fn returned_counts_are_accepted()
     ensures { AcceptsReturned }
-{
-}
+{}

@@ -1,16 +1,11 @@
-use Rattle.std.proofs.Common.{◌≡◌, ℕ, ◌<◌, ◌^◌, Option, Some, None, Result, Ok, Err, refl, sym, ap, ◌∙◌, subst, arith, length, false, slice_get}
+use Rattle.std.proofs.Common.{◌≡◌, ◌<◌, ◌^◌, Some, Ok, refl, sym, ap, ◌∙◌, subst, arith, length}
 use Rattle.std.proofs.lemmas.Result.{err_from_is_err_and}
-use Rattle.mc_num.specs.declared.memory.NoMemory.{NoMemory}
-use Rattle.ir_types.specs.declared.syntax.Function.{Function}
-use Rattle.ir_machine.specs.Same.{is_defined}
 use Rattle.ir_machine.specs.Code.{started, event_of}
-use Rattle.interp.specs.Follows.{Follows, ended_by}
+use Rattle.interp.specs.Follows.{Follows}
 use Rattle.interp.specs.Run.{Ran}
-use Rattle.interp.specs.declared.ends.Stop.{Stop}
-use Rattle.interp.specs.declared.ends.RunEnd.{RunEnd}
 use Rattle.interp.proofs.Mains.{main_there, main_defined, main_starts}
-use Rattle.interp.proofs.Going.{Going, Stepped, going_starts, goes_on, event_known}
-use Rattle.interp.proofs.Stopping.{ran_nothing, ran_short, ran_on, stops, for_any_err}
+use Rattle.interp.proofs.Going.{Stepped, going_starts, goes_on, event_known}
+use Rattle.interp.proofs.Stopping.{ran_short, ran_on, stops, for_any_err}
 use Rattle.interp.proofs.running.run_main.Goals as goal
 
 pub start-requires : goal.start-requires

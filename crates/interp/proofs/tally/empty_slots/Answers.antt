@@ -1,7 +1,7 @@
-use Rattle.std.proofs.Common.{◌≡◌, ℕ, ◌+◌, ◌<◌, ◌++◌, ◌∷◌, [], length, drop, take, get_or, replicate, sym, ap, ◌∙◌, arith}
+use Rattle.std.proofs.Common.{◌≡◌, ℕ, ◌+◌, ◌<◌, ◌++◌, ◌∷◌, [], length, drop, get_or, replicate, sym, ap, ◌∙◌}
 use Rattle.ir_types.specs.Limits.{slot_count}
 use Rattle.run_counts.proofs.Exits.{slot_count_is}
-use Rattle.interp.specs.Tallies.{starts_from, slots_in}
+use Rattle.interp.specs.Tallies.{starts_from}
 use Rattle.interp.proofs.Making.{starts_next, slots_next}
 use Rattle.interp.proofs.tally.empty_slots.Goals as goal
 

@@ -1,9 +1,5 @@
-use Rattle.std.proofs.Common.{◌≡◌, ℕ, ◌+◌, ◌<◌, ◌++◌, ◌∷◌, [], Bool, length, drop, map, get_or, sym, ap, ◌∙◌, arith}
+use Rattle.std.proofs.Common.{◌≡◌, ◌+◌, ◌<◌, ◌++◌, ◌∷◌, [], length, drop, get_or, ap, ◌∙◌, arith}
 use Rattle.std.specs.Prelude.{◌==◌}
-use Rattle.ir_types.specs.declared.syntax.Function.{Function}
-use Rattle.profile.specs.declared.counts.FnCounts.{FnCounts}
-use Rattle.run_counts.specs.Counted.{fn_counts}
-use Rattle.interp.specs.declared.tally.Places.{Places}
 use Rattle.interp.specs.Tallies.{starts_from}
 use Rattle.interp.specs.TallyOf.{first_counts, places_from}
 use Rattle.interp.proofs.Making.{counts_next, places_next, counts_left}

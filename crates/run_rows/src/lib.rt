@@ -1,0 +1,5 @@
+//! Worked rows of bounded runs, over sources and sinks in memory.
+#![tactic(auto)]
+
+#[cfg(test)]
+mod tests;
