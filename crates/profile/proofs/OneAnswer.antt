@@ -1,6 +1,7 @@
 -- A text is the profile of one list of counts, or refused for one reason.
-use Rattle.std.proofs.Common.{◌≡◌, ◌≢◌, ℕ, zero, suc, ◌+◌, ◌-◌, ◌^◌, ◌<◌, ◌≤◌, List, [], ◌∷◌, ◌++◌, Some, None, length, take, drop, get_or, slice_get, sum, sum_by, refl, sym, ap, subst, ◌∙◌, arith}
-use Rattle.std.specs.Prelude.{All, filter}
+use Rattle.std.proofs.Common.{◌≡◌, ◌≢◌, ℕ, zero, suc, ◌+◌, ◌-◌, ◌^◌, ◌<◌, ◌≤◌, List, [], ◌∷◌, ◌++◌, Some, None, length, take, drop, get_or, slice_get, sum, sum_by, refl, sym, ap, subst, ◌∙◌, arith, inl, inr, Ok, Err, IfOk, IfErr}
+use Rattle.std.specs.Prelude.{All, filter, MatchResult}
+use Rattle.std.specs.declared.result.Result.{Result}
 use Rattle.std.specs.List.{AllZip}
 use Rattle.std.proofs.lemmas.List.Sums.{sum_by-cons, get_or-le-sum_by, length-filter, count_by-le-length}
 use Rattle.std.proofs.lemmas.List.Elements.{All-head, All-tail, All-cons, All-nil, All-append, All-take, All-drop, All-filter, All-from_get_or}
@@ -11,6 +12,7 @@ use Rattle.ir_types.specs.WellFormed.{IsWellFormed}
 use Rattle.ir_types.specs.declared.syntax.Block.{Block}
 use Rattle.ir_types.specs.declared.syntax.Function.{Function}
 use Rattle.profile.specs.declared.counts.FnCounts.{FnCounts}
+use Rattle.profile.specs.declared.counts.Profile.{Profile}
 use Rattle.profile.specs.declared.lines.Line.TheVariants as line
 use Rattle.profile.specs.declared.reading.ProfileError.{ProfileError}
 use Rattle.profile.specs.declared.reading.ProfileError.TheVariants.{Form, Shape, Unbalanced, Unreached, Total, NoMemory}
@@ -202,3 +204,7 @@ has_one_answer m rules bytes = record {
   one_refusal = one_refusal m bytes;
   not_both = λ c e p q. not_both m bytes c e (reads_says m bytes c rules p) p.accepted q;
 }
+
+pub exact_answer : (m : Program) (bytes : List ℕ) → IsWellFormed m → (r : Result Profile ProfileError) → IfOk r (λ p. Reads m bytes p.functions) → IfErr r (λ e. Refuses m bytes e) → (counts : List FnCounts) → Reads m bytes counts → MatchResult r (λ p. p.functions ≡ counts) (λ e. e ≡ NoMemory)
+exact_answer m bytes rules (Ok p) ok err counts h = (has_one_answer m rules bytes).one_profile p.functions counts ok h
+exact_answer m bytes rules (Err e) ok err counts h = (has_one_answer m rules bytes).not_both counts e h err
