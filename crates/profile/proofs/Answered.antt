@@ -1,25 +1,21 @@
 -- A text has one answer.
-use Rattle.std.proofs.Common.{◌≡◌, ◌≢◌, ℕ, zero, suc, ◌+◌, ◌-◌, ◌^◌, ◌<◌, ◌≤◌, List, [], ◌∷◌, ◌++◌, Some, None, length, take, drop, map, get_or, slice_get, sum, sum_by, refl, sym, ap, subst, ◌∙◌, arith, append_assoc, codes, inl, inr, ◌⊎◌, ⊎_elim}
+use Rattle.std.proofs.Common.{◌≡◌, ℕ, zero, suc, ◌+◌, ◌<◌, List, [], ◌∷◌, ◌++◌, length, take, drop, map, get_or, slice_get, refl, sym, ap, subst, ◌∙◌, arith, append_assoc, codes, inl, inr}
 use Rattle.std.specs.Prelude.{All}
 use Rattle.std.specs.List.{AllZip, flat_map}
-use Rattle.std.proofs.lemmas.List.{append_cancel_left, append_cancel_right, take_at, drop_at, take-append-drop, length-append, length-take-le, get_or-take, length-drop, append-nil}
-use Rattle.std.proofs.lemmas.List.Sums.{sum_by-cons, get_or-le-sum_by, sum_by-take-drop}
-use Rattle.std.proofs.lemmas.List.Elements.{All-head, All-tail, All-cons, All-nil, All-append}
-use Rattle.std.proofs.lemmas.Bool.{cases_lt, cases_eq, true≢false}
-use Rattle.std.proofs.lemmas.Option.{same_Some, none-some}
+use Rattle.std.proofs.lemmas.List.{append_cancel_left, take_at, drop_at, take-append-drop, length-drop, append-nil}
+use Rattle.std.proofs.lemmas.List.Elements.{All-head, All-tail}
+use Rattle.std.proofs.lemmas.Bool.{cases_lt}
 use Rattle.ir_types.specs.Program.{Program}
-use Rattle.ir_types.specs.WellFormed.{IsWellFormed}
 use Rattle.ir_types.specs.declared.syntax.Block.{Block}
 use Rattle.ir_types.specs.declared.syntax.Function.{Function}
-use Rattle.flow_graph.specs.Slots.{slots_of, slots_from}
-use Rattle.flow_graph.specs.Paths.{IsReached, AreReached}
+use Rattle.flow_graph.specs.Slots.{slots_from}
 use Rattle.profile.specs.declared.counts.FnCounts.{FnCounts}
 use Rattle.profile.specs.declared.lines.Line.{Line}
 use Rattle.profile.specs.declared.lines.Line.TheVariants as line
-use Rattle.profile.specs.Counts.{defined, HasSlots, HasShape, total}
+use Rattle.profile.specs.Counts.{defined, HasSlots}
 use Rattle.profile.specs.Forms.{Run}
 use Rattle.profile.specs.Text.{spaced, word, numbers, line_text, first_line, text_of_lines, width, block_lines, function_lines, lines}
-use Rattle.profile.specs.Reading.{Fits, HasLines, BeginsWithLine, StopsBehind, LacksFirstLine, IsFormless, Outline, outline, outlines, IsFirstDifference, IsMisshapen, Says}
+use Rattle.profile.specs.Reading.{Fits, HasLines, BeginsWithLine, LacksFirstLine, IsFormless, Outline, outline, outlines, IsFirstDifference, IsMisshapen, Says}
 use Rattle.profile.proofs.Fronts.{front_feed}
 use Rattle.profile.proofs.Runs.{same_run, line_run, two_words, line_parts}
 use Rattle.profile.proofs.Widths.{slots_cons, length-block_lines}

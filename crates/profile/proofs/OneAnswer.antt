@@ -1,11 +1,11 @@
 -- A text is the profile of one list of counts, or refused for one reason.
-use Rattle.std.proofs.Common.{◌≡◌, ◌≢◌, ℕ, zero, suc, ◌+◌, ◌-◌, ◌^◌, ◌<◌, ◌≤◌, List, [], ◌∷◌, ◌++◌, Some, None, length, take, drop, get_or, slice_get, sum, sum_by, refl, sym, ap, subst, ◌∙◌, arith, inl, inr, Ok, Err, IfOk, IfErr}
-use Rattle.std.specs.Prelude.{All, filter, MatchResult}
+use Rattle.std.proofs.Common.{◌≡◌, ◌≢◌, ℕ, zero, suc, ◌+◌, ◌^◌, ◌<◌, ◌≤◌, List, [], ◌∷◌, ◌++◌, Some, length, take, drop, slice_get, sum, sum_by, refl, sym, ap, subst, ◌∙◌, arith, inl, inr, Ok, Err, IfOk, IfErr}
+use Rattle.std.specs.Prelude.{All, MatchResult}
 use Rattle.std.specs.declared.result.Result.{Result}
 use Rattle.std.specs.List.{AllZip}
 use Rattle.std.proofs.lemmas.List.Sums.{sum_by-cons, get_or-le-sum_by, length-filter, count_by-le-length}
 use Rattle.std.proofs.lemmas.List.Elements.{All-head, All-tail, All-cons, All-nil, All-append, All-take, All-drop, All-filter, All-from_get_or}
-use Rattle.std.proofs.lemmas.Bool.{cases_lt, cases_eq, true≢false}
+use Rattle.std.proofs.lemmas.Bool.{cases_lt}
 use Rattle.std.proofs.lemmas.Option.{same_Some, none-some}
 use Rattle.ir_types.specs.Program.{Program}
 use Rattle.ir_types.specs.WellFormed.{IsWellFormed}
@@ -16,9 +16,9 @@ use Rattle.profile.specs.declared.counts.Profile.{Profile}
 use Rattle.profile.specs.declared.lines.Line.TheVariants as line
 use Rattle.profile.specs.declared.reading.ProfileError.{ProfileError}
 use Rattle.profile.specs.declared.reading.ProfileError.TheVariants.{Form, Shape, Unbalanced, Unreached, Total, NoMemory}
-use Rattle.profile.specs.Counts.{is_defined, defined, HasSlots, HasShape, IsBalanced, IsUnreachedZero, AreCounts, IsAccepted, total, entering, leaving}
+use Rattle.profile.specs.Counts.{is_defined, defined, HasSlots, IsBalanced, IsUnreachedZero, AreCounts, IsAccepted, total, entering, leaving}
 use Rattle.profile.specs.Text.{width, block_lines, function_lines, lines}
-use Rattle.profile.specs.Reading.{Fits, Says, SaysBad, Reads, Refuses, IsFirstBad, IsFirstUnbalanced, IsFirstUnreached, HasOneAnswer}
+use Rattle.profile.specs.Reading.{Fits, Says, Reads, Refuses, IsFirstBad, IsFirstUnbalanced, IsFirstUnreached, HasOneAnswer}
 use Rattle.profile.proofs.Balancing.{alike, same_entering}
 use Rattle.profile.proofs.Answered.{one_formless, not_formless, one_misshapen, not_misshapen, one_saying}
 

@@ -1,13 +1,11 @@
 -- What the text of a profile means, or why it is refused.
-use Rattle.std.specs.Prelude.{◌≡◌, ◌≢◌, ◌<◌, ◌≤◌, ◌+◌, ◌^◌, ◌⊎◌, ℕ, Bool, List, [], ◌∷◌, ◌++◌, All, IsTrue, IsFalse, Option, Some, None, Ok, Err, take, map, length, slice_get, sum_by}
-use Rattle.std.specs.declared.result.Result.{Result}
-use Rattle.std.specs.List.{AllZip, flat_map}
+use Rattle.std.specs.Prelude.{◌≡◌, ◌≢◌, ◌<◌, ◌≤◌, ◌+◌, ◌^◌, ◌⊎◌, ℕ, Bool, List, [], ◌∷◌, ◌++◌, All, IsTrue, Some, take, map, length, slice_get, sum_by}
+use Rattle.std.specs.List.{AllZip}
 use Rattle.ir_types.specs.Program.{Program}
 use Rattle.ir_types.specs.declared.syntax.Block.{Block}
 use Rattle.ir_types.specs.declared.syntax.Function.{Function}
 use Rattle.flow_graph.specs.Paths.{IsReached, AreReached}
 use Rattle.profile.specs.declared.counts.FnCounts.{FnCounts}
-use Rattle.profile.specs.declared.counts.Profile.{Profile}
 use Rattle.profile.specs.declared.reading.ProfileError.{ProfileError}
 use Rattle.profile.specs.declared.reading.ProfileError.TheVariants.{Form, Shape, Unbalanced, Unreached, Total, NoMemory}
 use Rattle.profile.specs.Counts.{defined, HasShape, IsBalanced, IsUnreachedZero, IsAccepted, entering, leaving, goes_on, total}

@@ -10,11 +10,9 @@ ghost use Rattle.profile.specs.Reading.{HasOneAnswer, Reads};
 /// A text is the profile of one list of counts at most, or is refused for one reason at most, and not both.
 pub fn one_answer()
     ensures { (m : Program) → IsWellFormed m → (bytes : List ℕ) → HasOneAnswer m bytes }
-{
-}
+{}
 
 /// What is printed of accepted counts reads back as those counts.
 pub fn reads_back()
     ensures { (m : Program) (counts : List FnCounts) → IsAccepted m counts → Reads m (prof_text m counts) counts }
-{
-}
+{}

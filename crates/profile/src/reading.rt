@@ -2,6 +2,7 @@
 ghost use Rattle.std.specs.Prelude.{◌≡◌, ◌≤◌, ◌^◌, List, length, IfOk, IfErr, MatchResult};
 ghost use Rattle.ir_types.specs.WellFormed.{IsWellFormed};
 ghost use Rattle.profile.specs.declared.counts.FnCounts.{FnCounts};
+ghost use Rattle.profile.specs.Counts.{HasShape};
 ghost use Rattle.profile.specs.Reading.{Reads, Refuses};
 
 use crate::checking::{check_all_reached, check_balances, total_of};
@@ -69,6 +70,7 @@ fn keeps_rules(program: &Module<'_>)
 fn read(alloc: Global, bytes: &[u8], program: &Module<'_>) -> Result<Profile, ProfileError>
     requires { length bytes.now ≤ 2 ^ 26 }
     ensures ok { IfOk result (λ p. Reads program.now bytes.now p.functions) }
+    ensures shape { IfOk result (λ p. HasShape program.now p.functions) }
     ensures err { IfErr result (λ e. Refuses program.now bytes.now e) }
 {
     let lines = read_lines(alloc, bytes)?;
@@ -93,6 +95,7 @@ pub fn read_profile(
 ) -> Result<Profile, ProfileError>
     requires { length bytes.now ≤ 2 ^ 26 }
     ensures ok { IfOk result (λ p. Reads program.now bytes.now p.functions) }
+    ensures shape { IfOk result (λ p. HasShape program.now p.functions) }
     ensures err { IfErr result (λ e. Refuses program.now bytes.now e) }
     // the text of accepted counts is read as those counts, unless memory ran out
     ensures exact { (counts : List FnCounts) → Reads program.now bytes.now counts → MatchResult result (λ p. p.functions ≡ counts) (λ e. e ≡ ProfileError.NoMemory) }

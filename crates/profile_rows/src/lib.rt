@@ -1,5 +1,7 @@
-//! Rows of profiles: the texts of small modules' profiles, read and refused.
+//! Rows of profiles, and of the slots that they count.
 #![tactic(auto)]
 
 #[cfg(test)]
 mod rows;
+#[cfg(test)]
+mod slots;
