@@ -1,17 +1,17 @@
 -- How the search for the reached blocks keeps what it knows.
-use Rattle.std.proofs.Common.{◌≡◌, ◌≢◌, ℕ, ◌<◌, ◌≤◌, ◌+◌, Bool, true, false, not, cond, List, [], ◌∷◌, ◌++◌, Option, Some, None, length, get_or, set, count_by, map, refl, sym, ap, ◌∙◌, subst, arith, inl, inr, ◌⊎◌, ⊎_elim, IsTrue, ◌↔◌, get_or-set_same, get_or-set_other, slice_get, replicate}
+use Rattle.std.proofs.Common.{◌≡◌, ℕ, ◌<◌, ◌+◌, Bool, true, false, not, cond, List, [], ◌∷◌, ◌++◌, Option, Some, None, length, get_or, set, count_by, refl, sym, ap, ◌∙◌, subst, arith, inl, inr, ⊎_elim, get_or-set_same, get_or-set_other, slice_get, replicate}
 use Rattle.std.specs.Prelude.{Contains, option_and_then}
 use Rattle.std.proofs.lemmas.List.{length-set, length_push, get_or_past, length-replicate, get_or-replicate}
 use Rattle.std.proofs.lemmas.Option.{none-some, slice_get_within, slice_get_read, get_or_from_slice_get}
 use Rattle.std.proofs.lemmas.List.Sums.{sum_by-set}
 use Rattle.std.proofs.lemmas.List.Elements.{Contains-append_left, Contains-append_right, Contains-append_cases, Contains-push, Contains-push_cases, Contains-get_or}
-use Rattle.std.proofs.lemmas.Bool.{cases_eq, cases_Bool, cases_lt, true≢false}
+use Rattle.std.proofs.lemmas.Bool.{cases_eq, cases_lt, true≢false}
 use Rattle.ir_types.specs.declared.syntax.Block.{Block}
 use Rattle.ir_types.specs.declared.syntax.Function.{Function}
 use Rattle.flow_graph.specs.declared.reaching.Search.{Search}
 use Rattle.flow_graph.specs.Slots.{slots_of, next_block}
 use Rattle.flow_graph.specs.Paths.{IsPath, IsReached, AreReached, is_marked}
-use Rattle.flow_graph.specs.Searching.{IsMarked, work, Reaches, IsFollowed, Searching}
+use Rattle.flow_graph.specs.Searching.{IsMarked, Reaches, IsFollowed, Searching}
 
 -- ---- one block
 

@@ -1,5 +1,5 @@
 -- How the search for the reached blocks goes on.
-use Rattle.std.specs.Prelude.{◌≡◌, ◌<◌, ◌+◌, ◌⊎◌, ℕ, Bool, true, false, not, Some, List, length, count_by, Contains}
+use Rattle.std.specs.Prelude.{◌≡◌, ◌<◌, ◌+◌, ◌⊎◌, ℕ, true, not, Some, List, length, count_by, Contains}
 use Rattle.ir_types.specs.declared.syntax.Function.{Function}
 use Rattle.flow_graph.specs.declared.reaching.Search.{Search}
 use Rattle.flow_graph.specs.Slots.{next_block}

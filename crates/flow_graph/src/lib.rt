@@ -3,6 +3,8 @@
 
 mod reaching;
 mod slots;
+#[cfg(test)]
+mod tests;
 
 pub use reaching::reachable;
 pub use slots::{slot_count, slot_target, slots_len, target};

@@ -1,25 +1,21 @@
 -- A text has one answer.
-use Rattle.std.proofs.Common.{◌≡◌, ◌≢◌, ℕ, zero, suc, ◌+◌, ◌-◌, ◌^◌, ◌<◌, ◌≤◌, List, [], ◌∷◌, ◌++◌, Some, None, length, take, drop, map, get_or, slice_get, sum, sum_by, refl, sym, ap, subst, ◌∙◌, arith, append_assoc, codes, inl, inr, ◌⊎◌, ⊎_elim}
+use Rattle.std.proofs.Common.{◌≡◌, ℕ, zero, suc, ◌+◌, ◌<◌, List, [], ◌∷◌, ◌++◌, length, take, drop, map, get_or, slice_get, refl, sym, ap, subst, ◌∙◌, arith, append_assoc, codes, inl, inr}
 use Rattle.std.specs.Prelude.{All}
 use Rattle.std.specs.List.{AllZip, flat_map}
-use Rattle.std.proofs.lemmas.List.{append_cancel_left, append_cancel_right, take_at, drop_at, take-append-drop, length-append, length-take-le, get_or-take, length-drop, append-nil}
-use Rattle.std.proofs.lemmas.List.Sums.{sum_by-cons, get_or-le-sum_by, sum_by-take-drop}
-use Rattle.std.proofs.lemmas.List.Elements.{All-head, All-tail, All-cons, All-nil, All-append}
-use Rattle.std.proofs.lemmas.Bool.{cases_lt, cases_eq, true≢false}
-use Rattle.std.proofs.lemmas.Option.{same_Some, none-some}
+use Rattle.std.proofs.lemmas.List.{append_cancel_left, take_at, drop_at, take-append-drop, length-drop, append-nil}
+use Rattle.std.proofs.lemmas.List.Elements.{All-head, All-tail}
+use Rattle.std.proofs.lemmas.Bool.{cases_lt}
 use Rattle.ir_types.specs.Program.{Program}
-use Rattle.ir_types.specs.WellFormed.{IsWellFormed}
 use Rattle.ir_types.specs.declared.syntax.Block.{Block}
 use Rattle.ir_types.specs.declared.syntax.Function.{Function}
-use Rattle.flow_graph.specs.Slots.{slots_of, slots_from}
-use Rattle.flow_graph.specs.Paths.{IsReached, AreReached}
+use Rattle.flow_graph.specs.Slots.{slots_from}
 use Rattle.profile.specs.declared.counts.FnCounts.{FnCounts}
 use Rattle.profile.specs.declared.lines.Line.{Line}
 use Rattle.profile.specs.declared.lines.Line.TheVariants as line
-use Rattle.profile.specs.Counts.{defined, HasSlots, HasShape, total}
+use Rattle.profile.specs.Counts.{defined, HasSlots}
 use Rattle.profile.specs.Forms.{Run}
 use Rattle.profile.specs.Text.{spaced, word, numbers, line_text, first_line, text_of_lines, width, block_lines, function_lines, lines}
-use Rattle.profile.specs.Reading.{Fits, HasLines, BeginsWithLine, StopsBehind, LacksFirstLine, IsFormless, Outline, outline, outlines, IsFirstDifference, IsMisshapen, Says}
+use Rattle.profile.specs.Reading.{Fits, HasLines, BeginsWithLine, LacksFirstLine, IsFormless, Outline, outline, outlines, IsFirstDifference, IsMisshapen, Says}
 use Rattle.profile.proofs.Fronts.{front_feed}
 use Rattle.profile.proofs.Runs.{same_run, line_run, two_words, line_parts}
 use Rattle.profile.proofs.Widths.{slots_cons, length-block_lines}
@@ -130,17 +126,17 @@ not_misshapen m bytes n counts p s =
 
 -- ---- counts
 
-cut : {X : Type 0} (as bs xs ys : List X) → length as ≡ length bs → as ++ xs ≡ bs ++ ys → (as ≡ bs) × (xs ≡ ys)
-cut as bs xs ys len e = (
-  sym (take_at as xs (length as) refl) ∙ ap (take (length as)) e ∙ take_at bs ys (length as) (sym len),
-  sym (drop_at as xs (length as) refl) ∙ ap (drop (length as)) e ∙ drop_at bs ys (length as) (sym len),
+cut : {X : Type 0} (fs gs xs ys : List X) → length fs ≡ length gs → fs ++ xs ≡ gs ++ ys → (fs ≡ gs) × (xs ≡ ys)
+cut fs gs xs ys len e = (
+  sym (take_at fs xs (length fs) refl) ∙ ap (take (length fs)) e ∙ take_at gs ys (length fs) (sym len),
+  sym (drop_at fs xs (length fs) refl) ∙ ap (drop (length fs)) e ∙ drop_at gs ys (length fs) (sym len),
 )
 
-counts_in : Line → List ℕ
+abbrev counts_in : Line → List ℕ
 counts_in (line.Function k n) = []
 counts_in (line.Block b ns) = ns
 
-entry_in : Line → ℕ
+abbrev entry_in : Line → ℕ
 entry_in (line.Function k n) = n
 entry_in (line.Block b ns) = 0
 
@@ -158,7 +154,6 @@ one_block_lines b (x ∷ xs) cs ds p q e =
     sym (take-append-drop (width x) cs) ∙ ap (λ l. l ++ drop (width x) cs) (own h.0) ∙ ap (λ l. take (width x) ds ++ l) more ∙ take-append-drop (width x) ds
   where
     own : line.Block b (take (width x) cs) ≡ line.Block b (take (width x) ds) → take (width x) cs ≡ take (width x) ds
-    unfolding counts_in
     own h = ap counts_in h
 
 one_functions : (k : ℕ) (fs : List Function) (cs ds : List FnCounts) → AllZip HasSlots fs cs → AllZip HasSlots fs ds → function_lines k fs cs ≡ function_lines k fs ds → cs ≡ ds
@@ -175,7 +170,6 @@ one_functions k (f ∷ fs) (c ∷ cs) (d ∷ ds) p q e =
     ap (λ x. x ∷ cs) own ∙ ap (λ l. d ∷ l) (one_functions (k + 1) fs cs ds p.1 q.1 parts.1)
   where
     entry : line.Function k c.entry ≡ line.Function k d.entry → c.entry ≡ d.entry
-    unfolding entry_in
     entry h = ap entry_in h
 
 pub one_saying : (m : Program) (bytes : List ℕ) (cs ds : List FnCounts) → Says m bytes cs → Says m bytes ds → cs ≡ ds

@@ -1,11 +1,11 @@
 -- What holds while sums are made of slots and compared, block by block.
-use Rattle.std.proofs.Common.{◌≡◌, ◌≢◌, ℕ, zero, suc, ◌+◌, ◌-◌, ◌*◌, ◌^◌, ◌<◌, ◌≤◌, ◌==◌, ◌&&◌, not, Bool, true, false, cond, List, [], ◌∷◌, ◌++◌, Option, None, Some, length, take, drop, map, get_or, slice_get, sum, sum_by, refl, sym, ap, subst, ◌∙◌, arith, inl, inr, ◌⊎◌, ⊎_elim}
-use Rattle.std.specs.Prelude.{All, MatchOption}
+use Rattle.std.proofs.Common.{◌≡◌, ◌≢◌, ℕ, ◌+◌, ◌-◌, ◌^◌, ◌<◌, ◌≤◌, ◌==◌, ◌&&◌, not, Bool, true, false, cond, List, [], ◌∷◌, Option, None, Some, length, take, drop, get_or, slice_get, sum, refl, sym, ap, subst, ◌∙◌, arith, inl, inr}
+use Rattle.std.specs.Prelude.{MatchOption}
 use Rattle.std.proofs.lemmas.List.Elements.{All-from_get_or}
 use Rattle.std.specs.Bool.{IsTrue}
 use Rattle.std.specs.List.{zip}
 use Rattle.std.specs.Option.{option_map_or}
-use Rattle.std.proofs.lemmas.List.{drop_more, drop_all, get_or_past, length-drop, get_or_default}
+use Rattle.std.proofs.lemmas.List.{drop_more, drop_all, get_or_past}
 use Rattle.std.proofs.lemmas.List.Sums.{sum_by-cons, sum_by-take-drop, sum_by-le}
 use Rattle.std.proofs.lemmas.Bool.{cases_Bool, cases_eq, cases_lt, true≢false}
 use Rattle.std.proofs.lemmas.Option.{slice_get-get_or, slice_get_past}
@@ -18,7 +18,7 @@ use Rattle.profile.specs.Counts.{HasSlots, IsUnreachedZero, IsBalanced, entering
 use Rattle.profile.specs.Reading.{IsFirstUnbalanced, IsFirstUnreached}
 use Rattle.profile.specs.Sums.{into, entered, left, DiffersFirst}
 use Rattle.profile.specs.Text.{width}
-use Rattle.profile.proofs.Summed.{into_more, into_le, sum_left, some_of, entered_yes, entered_no, left_here, left_later, left_past, rest_len}
+use Rattle.profile.proofs.Summed.{into_more, into_le, sum_left, some_of, entered_yes, entered_no, left_here, left_later, rest_len}
 
 -- a sum at a place, or 0 past the end
 past : (sums : List ℕ) (b : ℕ) → length sums ≤ b → get_or sums b 0 ≡ 0
@@ -79,8 +79,8 @@ blocks_yes blocks test cs start sums new rest later i x lt is yes' l len change 
     (record {
       len = later_len blocks i x rest lt is s.len;
       is = λ b h. (let old = s.is b (omega arith) in let step = change b (omega arith) in
-      let split : entered test b (zip (slots_from i (drop i blocks)) rest) ≡ into b (slots_of x.term) (take (width x) rest) + entered test b (zip (slots_from (i + 1) (drop (i + 1) blocks)) (drop (width x) rest)) =
-      ap (λ l. entered test b (zip (slots_from i l) rest)) (here blocks i x lt is) ∙ entered_yes test b i x (drop (i + 1) blocks) rest yes' in omega (arith, old, step, split));
+          let split : entered test b (zip (slots_from i (drop i blocks)) rest) ≡ into b (slots_of x.term) (take (width x) rest) + entered test b (zip (slots_from (i + 1) (drop (i + 1) blocks)) (drop (width x) rest)) =
+          ap (λ l. entered test b (zip (slots_from i l) rest)) (here blocks i x lt is) ∙ entered_yes test b i x (drop (i + 1) blocks) rest yes' in omega (arith, old, step, split));
       room = λ b. elim (cases_lt b (length sums)) [
         | inl inside ↦ (let step = change b inside in let before = s.room b in omega (arith, parts (width x) rest, into_le b (slots_of x.term) (take (width x) rest)))
         | inr beyond ↦ (let before = s.room b in omega (arith, parts (width x) rest, past new b (omega arith)))
@@ -93,8 +93,8 @@ blocks_no blocks test cs start sums rest later i x lt is no' l s =
     (record {
       len = later_len blocks i x rest lt is s.len;
       is = λ b h. (let old = s.is b h in
-      let split : entered test b (zip (slots_from i (drop i blocks)) rest) ≡ entered test b (zip (slots_from (i + 1) (drop (i + 1) blocks)) (drop (width x) rest)) =
-      ap (λ l. entered test b (zip (slots_from i l) rest)) (here blocks i x lt is) ∙ entered_no test b i x (drop (i + 1) blocks) rest no' in omega (arith, old, split));
+          let split : entered test b (zip (slots_from i (drop i blocks)) rest) ≡ entered test b (zip (slots_from (i + 1) (drop (i + 1) blocks)) (drop (width x) rest)) =
+          ap (λ l. entered test b (zip (slots_from i l) rest)) (here blocks i x lt is) ∙ entered_no test b i x (drop (i + 1) blocks) rest no' in omega (arith, old, split));
       room = λ b. (let before = s.room b in omega (arith, parts (width x) rest));
     })
 
@@ -203,8 +203,8 @@ comparing_more f c test sums blocks rest later i out x lt is l o alike s =
       later = comparing_later f c test sums blocks rest i x lt is s;
       done = λ b h t g. elim (cases_eq b i) [
         | inl same ↦ (let open' : IsTrue (goes_on f i) = subst (λ n. IsTrue (goes_on f n)) same g in
-          ap (λ n. get_or sums n 0) same ∙ alike (subst (λ n. IsTrue (test n)) same t) (off (is_return x.term) (sym (goes_on_here f blocks i x s.same lt is) ∙ open'))
-          ∙ o ∙ sym (leaving_here f c test sums blocks rest i x lt is s) ∙ ap (leaving f c) (sym same))
+            ap (λ n. get_or sums n 0) same ∙ alike (subst (λ n. IsTrue (test n)) same t) (off (is_return x.term) (sym (goes_on_here f blocks i x s.same lt is) ∙ open'))
+            ∙ o ∙ sym (leaving_here f c test sums blocks rest i x lt is s) ∙ ap (leaving f c) (sym same))
         | inr other ↦ s.done b (omega arith) t g
       ];
     })

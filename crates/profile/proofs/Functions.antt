@@ -1,24 +1,23 @@
 -- The lines of a text beside those of a module, function by function.
-use Rattle.std.proofs.Common.{◌≡◌, ◌≢◌, ℕ, zero, suc, ◌+◌, ◌<◌, ◌≤◌, ◌==◌, not, Bool, true, false, cond, List, [], ◌∷◌, ◌++◌, Some, None, length, take, drop, map, get_or, slice_get, refl, sym, ap, subst, ◌∙◌, arith, append_assoc}
+use Rattle.std.proofs.Common.{◌≡◌, ℕ, zero, suc, ◌+◌, ◌<◌, ◌≤◌, ◌==◌, not, true, false, cond, List, [], ◌∷◌, ◌++◌, None, length, take, drop, map, get_or, slice_get, refl, sym, ap, subst, ◌∙◌, arith, append_assoc}
 use Rattle.std.specs.Prelude.{filter}
 use Rattle.std.specs.List.{AllZip}
 use Rattle.std.specs.Option.{option_map}
-use Rattle.std.proofs.lemmas.List.{drop_more, take_all, take_at, drop_at, take-append-le, length-append, length-map, length-take-le, take-map, map-append, append-nil, take-append-drop}
+use Rattle.std.proofs.lemmas.List.{drop_more, take_all, take_at, drop_at, take-append-le, length-map, length-take-le, take-map, map-append, append-nil, take-append-drop}
 use Rattle.std.proofs.lemmas.List.Elements.{filter_more, filter-append}
-use Rattle.std.proofs.lemmas.Option.{slice_get-map, slice_get_past, slice_get_within, none-some}
+use Rattle.std.proofs.lemmas.Option.{slice_get-map, slice_get_past, none-some}
 use Rattle.ir_types.specs.Rules.{is_nil}
 use Rattle.ir_types.specs.Program.{Program}
-use Rattle.ir_types.specs.declared.syntax.Block.{Block}
 use Rattle.ir_types.specs.declared.syntax.Function.{Function}
 use Rattle.profile.specs.declared.counts.FnCounts.{FnCounts}
 use Rattle.profile.specs.declared.lines.Line.{Line}
 use Rattle.profile.specs.declared.lines.Line.TheVariants as line
 use Rattle.profile.specs.declared.reading.ProfileError.{ProfileError}
 use Rattle.profile.specs.declared.reading.ProfileError.TheVariants.{Form, Shape, Unbalanced, Unreached, Total, NoMemory}
-use Rattle.profile.specs.Counts.{is_defined, defined, HasSlots, HasShape}
+use Rattle.profile.specs.Counts.{is_defined, defined, HasSlots}
 use Rattle.profile.specs.Text.{block_lines, function_lines, lines}
-use Rattle.profile.specs.Reading.{Outline, outline, FunctionLine, BlockLine, block_outlines, function_outlines, outlines, IsFirstDifference, HasLines, Refuses}
-use Rattle.profile.specs.Shapes.{DiffersAt, FailsAt, AreFunction}
+use Rattle.profile.specs.Reading.{Outline, outline, FunctionLine, block_outlines, function_outlines, outlines, IsFirstDifference, HasLines, Refuses}
+use Rattle.profile.specs.Shapes.{FailsAt, AreFunction}
 use Rattle.profile.proofs.Widths.{block_outlines_of}
 use Rattle.profile.proofs.Outlines.{slice_get-drop}
 
@@ -171,7 +170,7 @@ split_outlines all i f k lt is some num =
     ∙ filter-append is_defined (take i all) (f ∷ later) ∙ ap (λ b. filter is_defined (take i all) ++ cond b (f ∷ filter is_defined later) (filter is_defined later)) test in (
       function_outlines (k + 1) (filter is_defined later),
       ap (function_outlines 0) parts ∙ function_outlines_append 0 (filter is_defined (take i all)) (f ∷ filter is_defined later)
-        ∙ ap (λ n. function_outlines 0 (filter is_defined (take i all)) ++ (FunctionLine n ∷ (block_outlines 0 f.blocks ++ function_outlines (n + 1) (filter is_defined later)))) (zeros (length (filter is_defined (take i all))) ∙ num),
+          ∙ ap (λ n. function_outlines 0 (filter is_defined (take i all)) ++ (FunctionLine n ∷ (block_outlines 0 f.blocks ++ function_outlines (n + 1) (filter is_defined later)))) (zeros (length (filter is_defined (take i all))) ∙ num),
     )
   where
     zeros : (n : ℕ) → 0 + n ≡ n

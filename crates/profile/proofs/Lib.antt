@@ -9,3 +9,4 @@ pub mod Balancing
 pub mod Walks
 pub mod Read
 pub mod Answered
+pub mod OneAnswer

@@ -1,17 +1,16 @@
 -- The lines of a text beside those of a module, block by block.
-use Rattle.std.proofs.Common.{◌≡◌, ◌≢◌, ℕ, zero, suc, ◌+◌, ◌<◌, ◌≤◌, List, [], ◌∷◌, ◌++◌, Some, None, length, take, drop, map, get_or, slice_get, refl, sym, ap, subst, ◌∙◌, arith}
-use Rattle.std.proofs.lemmas.List.{take_more, take_all, drop_more, get_or-drop, length-drop, length-append, length-take-le, take-map, drop-map, append_assoc, append-nil, take-append-drop}
-use Rattle.std.proofs.lemmas.Option.{slice_get_within, slice_get_read, get_or_from_slice_get, slice_get-map, none-some, same_Some, slice_get_past}
+use Rattle.std.proofs.Common.{◌≡◌, ◌≢◌, ℕ, zero, suc, ◌+◌, ◌≤◌, List, [], ◌∷◌, ◌++◌, Some, length, take, drop, map, slice_get, refl, sym, ap, ◌∙◌, arith}
+use Rattle.std.proofs.lemmas.List.{take_more, take_all, drop_more, length-append, length-take-le, take-map, drop-map}
+use Rattle.std.proofs.lemmas.Option.{slice_get_within, get_or_from_slice_get}
 use Rattle.ir_types.specs.declared.syntax.Block.{Block}
 use Rattle.ir_types.specs.declared.syntax.Function.{Function}
 use Rattle.flow_graph.specs.Slots.{slots_from}
-use Rattle.profile.specs.declared.counts.FnCounts.{FnCounts}
 use Rattle.profile.specs.declared.lines.Line.{Line}
 use Rattle.profile.specs.declared.lines.Line.TheVariants as line
 use Rattle.profile.specs.declared.reading.ProfileError.{ProfileError}
 use Rattle.profile.specs.declared.reading.ProfileError.TheVariants.{Form, Shape, Unbalanced, Unreached, Total, NoMemory}
 use Rattle.profile.specs.Text.{width, block_lines}
-use Rattle.profile.specs.Reading.{Outline, outline, FunctionLine, BlockLine, block_outlines, IsFirstDifference}
+use Rattle.profile.specs.Reading.{Outline, outline, FunctionLine, BlockLine, block_outlines}
 use Rattle.profile.specs.Shapes.{DiffersAt, FailsAt, AreBlocks, AreFunction}
 use Rattle.profile.proofs.Widths.{slots_push, block_lines_push, block_outlines_of, length-block_outlines, take-block_outlines, block_outline_at}
 

@@ -1,17 +1,16 @@
 -- What a whole text says.
-use Rattle.std.proofs.Common.{◌≡◌, ℕ, ◌+◌, ◌-◌, ◌^◌, ◌<◌, ◌≤◌, List, [], ◌∷◌, ◌++◌, length, min, sum_by, refl, sym, ap, subst, ◌∙◌, arith}
-use Rattle.std.specs.List.{AllZip, flat_map}
+use Rattle.std.proofs.Common.{◌≡◌, ℕ, ◌-◌, ◌^◌, ◌<◌, ◌≤◌, List, [], ◌∷◌, length, min, sum_by, sym, subst, ◌∙◌, arith}
+use Rattle.std.specs.List.{AllZip}
 use Rattle.std.proofs.lemmas.List.{append-nil}
 use Rattle.ir_types.specs.Program.{Program}
 use Rattle.ir_types.specs.declared.syntax.Function.{Function}
 use Rattle.profile.specs.declared.counts.FnCounts.{FnCounts}
 use Rattle.profile.specs.declared.lines.Line.{Line}
-use Rattle.profile.specs.declared.reading.ProfileError.{ProfileError}
 use Rattle.profile.specs.declared.reading.ProfileError.TheVariants.{Total}
-use Rattle.profile.specs.Counts.{defined, HasSlots, HasShape, IsBalanced, IsUnreachedZero, AreCounts, IsAccepted, total}
-use Rattle.profile.specs.Text.{lines, text_of_lines, prof_text}
+use Rattle.profile.specs.Counts.{defined, HasSlots, HasShape, IsBalanced, IsUnreachedZero, AreCounts, total}
+use Rattle.profile.specs.Text.{lines, text_of_lines}
 use Rattle.profile.specs.Reading.{HasLines, Says, Reads, Refuses}
-use Rattle.profile.proofs.Runs.{LinesSoFar, few_lines}
+use Rattle.profile.proofs.Runs.{few_lines}
 
 pub few_read : (bytes : List ℕ) (ls : List Line) → HasLines bytes ls → length ls ≤ length bytes
 few_read bytes ls h = omega (arith, few_lines bytes ls [] (record { text = h.text ∙ sym (append-nil (text_of_lines ls)); fit = h.fit }))

@@ -1,5 +1,5 @@
 -- Numbers one after another, and the lines that they make.
-use Rattle.std.proofs.Common.{◌≡◌, ◌≢◌, ℕ, ◌+◌, ◌^◌, ◌<◌, ◌≤◌, Bool, true, false, List, [], ◌∷◌, ◌++◌, Option, None, Some, length, get_or, refl, sym, ap, subst, ◌∙◌, arith, codes, append_assoc, Ok, Err, IfOk}
+use Rattle.std.proofs.Common.{◌≡◌, ◌≢◌, ℕ, ◌+◌, ◌^◌, ◌<◌, ◌≤◌, false, List, [], ◌∷◌, ◌++◌, Option, None, Some, length, get_or, refl, sym, ap, subst, ◌∙◌, arith, codes, append_assoc, Ok, Err, IfOk}
 use Rattle.std.specs.Prelude.{All, MatchOption}
 use Rattle.std.specs.declared.result.Result.{Result}
 use Rattle.std.specs.List.{flat_map}
@@ -47,10 +47,10 @@ regroup n more rest = ap (λ l. 32 ∷ l) (append_assoc (decimal n) more rest)
 pub run_of : (ns rest : List ℕ) → All (λ n. n < 2 ^ 64) ns → heads is_digit rest ≡ false → Run (spaced ns ++ rest) ns rest
 run_of [] rest all stop = refl
 run_of (n ∷ ns) rest all stop = (
-    spaced ns ++ rest,
-    ap front_number (regroup n (spaced ns) rest) ∙ front_decimal n (spaced ns ++ rest) (All-head (λ n. n < 2 ^ 64) n ns all) (stops ns),
-    run_of ns rest (All-tail (λ n. n < 2 ^ 64) n ns all) stop,
-  )
+  spaced ns ++ rest,
+  ap front_number (regroup n (spaced ns) rest) ∙ front_decimal n (spaced ns ++ rest) (All-head (λ n. n < 2 ^ 64) n ns all) (stops ns),
+  run_of ns rest (All-tail (λ n. n < 2 ^ 64) n ns all) stop,
+)
   where
     stops : (ms : List ℕ) → heads is_digit (spaced ms ++ rest) ≡ false
     stops [] = stop

@@ -1,9 +1,8 @@
 -- Sums over slots, block by block.
-use Rattle.std.proofs.Common.{◌≡◌, ℕ, zero, suc, ◌+◌, ◌-◌, ◌*◌, ◌<◌, ◌≤◌, ◌==◌, ◌&&◌, not, Bool, true, false, cond, List, [], ◌∷◌, ◌++◌, Some, length, take, drop, map, get_or, slice_get, sum, sum_by, refl, sym, ap, subst, ◌∙◌, arith, inl, inr}
+use Rattle.std.proofs.Common.{◌≡◌, ℕ, ◌+◌, ◌<◌, ◌≤◌, ◌==◌, ◌&&◌, Bool, true, false, cond, List, [], ◌∷◌, ◌++◌, Some, length, take, drop, map, get_or, slice_get, sum, sum_by, refl, sym, ap, ◌∙◌, arith}
 use Rattle.std.specs.List.{zip}
-use Rattle.std.proofs.lemmas.List.{take_more, drop_more, length-map, length-take-le, length-drop, get_or_default}
-use Rattle.std.proofs.lemmas.List.Sums.{sum_by-cons, sum_by-append, sum_by_push, sum_by-drop_more, sum_by-take-drop}
-use Rattle.std.proofs.lemmas.Bool.{cases_Bool, cases_eq, cases_lt}
+use Rattle.std.proofs.lemmas.List.{take_more, length-map, length-take-le, length-drop}
+use Rattle.std.proofs.lemmas.List.Sums.{sum_by-cons, sum_by-append, sum_by_push, sum_by-drop_more}
 use Rattle.std.proofs.lemmas.Option.{slice_get_within}
 use Rattle.ir_types.specs.declared.syntax.Block.{Block}
 use Rattle.flow_graph.specs.Slots.{slots_of, slots_from}

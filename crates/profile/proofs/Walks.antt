@@ -1,21 +1,21 @@
 -- The functions that have blocks beside their counts, one after another.
-use Rattle.std.proofs.Common.{◌≡◌, ◌≢◌, ℕ, zero, suc, ◌+◌, ◌<◌, ◌≤◌, ◌^◌, ◌-◌, ◌==◌, not, Bool, true, false, cond, List, [], ◌∷◌, ◌++◌, Some, None, length, take, drop, map, get_or, slice_get, refl, sym, ap, subst, ◌∙◌, arith, append_assoc}
-use Rattle.std.specs.Prelude.{filter, All}
+use Rattle.std.proofs.Common.{◌≡◌, ℕ, ◌+◌, ◌<◌, ◌≤◌, ◌^◌, ◌==◌, not, true, false, cond, List, [], ◌∷◌, ◌++◌, Some, length, take, drop, get_or, slice_get, refl, sym, ap, subst, ◌∙◌, arith}
+use Rattle.std.specs.Prelude.{filter}
 use Rattle.std.specs.List.{AllZip}
-use Rattle.std.proofs.lemmas.List.{take_all, take_more, drop_more, take_at, length-append, length-take-le, append-nil, take-append-drop, length_push}
+use Rattle.std.proofs.lemmas.List.{take_all, take_more, take_at, append-nil, take-append-drop, length_push}
 use Rattle.std.proofs.lemmas.List.Elements.{filter_more, filter-append}
-use Rattle.std.proofs.lemmas.Option.{slice_get_read, slice_get-get_or}
+use Rattle.std.proofs.lemmas.Option.{slice_get_read}
 use Rattle.ir_types.specs.Program.{Program}
 use Rattle.ir_types.specs.WellFormed.{IsWellFormed, IsFunctionIn}
 use Rattle.ir_types.specs.declared.syntax.Function.{Function}
 use Rattle.profile.specs.declared.counts.FnCounts.{FnCounts}
 use Rattle.profile.specs.declared.reading.ProfileError.{ProfileError}
 use Rattle.profile.specs.declared.reading.ProfileError.TheVariants.{Form, Shape, Unbalanced, Unreached, Total, NoMemory}
-use Rattle.profile.specs.Counts.{is_defined, defined, HasSlots, HasShape, IsBalanced, IsUnreachedZero}
-use Rattle.profile.specs.Reading.{Says, SaysBad, IsFirstBad, IsFirstUnbalanced, IsFirstUnreached, Refuses}
+use Rattle.profile.specs.Counts.{is_defined, defined, HasSlots, IsBalanced, IsUnreachedZero}
+use Rattle.profile.specs.Reading.{Says, IsFirstBad, IsFirstUnbalanced, IsFirstUnreached, Refuses}
 use Rattle.profile.specs.Sums.{TellsUnbalanced, TellsUnreached}
 use Rattle.profile.proofs.Functions.{is_nil_is, zip_length, zip_push}
-use Rattle.profile.proofs.Printed.{IsNext, next_is, next_inside, skipped}
+use Rattle.profile.proofs.Printed.{next_is, skipped}
 
 -- ---- the walk
 

@@ -1,13 +1,12 @@
 -- How many slots blocks have, and the lines with their counts.
-use Rattle.std.proofs.Common.{◌≡◌, ℕ, zero, suc, Some, ◌+◌, ◌<◌, ◌≤◌, List, [], ◌∷◌, ◌++◌, length, take, drop, map, slice_get, refl, sym, ap, subst, ◌∙◌, arith}
+use Rattle.std.proofs.Common.{◌≡◌, ℕ, zero, suc, Some, ◌+◌, ◌≤◌, List, [], ◌∷◌, ◌++◌, length, take, drop, map, slice_get, refl, ap, ◌∙◌, arith}
 use Rattle.std.proofs.lemmas.List.{length-append, length-map, length-take-le, take-append-le, drop-append-le, take_all, nil_from_length, length-drop}
 use Rattle.std.proofs.lemmas.Option.{none-some, same_Some}
 use Rattle.ir_types.specs.declared.syntax.Block.{Block}
 use Rattle.flow_graph.specs.Slots.{slots_of, slots_from}
-use Rattle.profile.specs.declared.lines.Line.{Line}
 use Rattle.profile.specs.declared.lines.Line.TheVariants as line
 use Rattle.profile.specs.Text.{width, block_lines}
-use Rattle.profile.specs.Reading.{Outline, outline, BlockLine, block_outlines}
+use Rattle.profile.specs.Reading.{outline, BlockLine, block_outlines}
 
 pub slots_cons : (b : ℕ) (x : Block) (xs : List Block) → length (slots_from b (x ∷ xs)) ≡ width x + length (slots_from (b + 1) xs)
 slots_cons b x xs = length-append (map (λ (t : ℕ). (b, t)) (slots_of x.term)) (slots_from (b + 1) xs) ∙ ap (λ n. n + length (slots_from (b + 1) xs)) (length-map (slots_of x.term) (λ (t : ℕ). (b, t)))

@@ -1,11 +1,11 @@
 -- Numbers and lines at the front of a text.
-use Rattle.std.specs.Prelude.{◌≡◌, ◌≢◌, ◌^◌, ℕ, ◌==◌, ◌&&◌, ◌||◌, nat_lt, not, Bool, List, [], ◌∷◌, ◌++◌, Option, None, Some, take, drop, length, if◌then◌else◌}
+use Rattle.std.specs.Prelude.{◌≡◌, ◌^◌, ℕ, ◌==◌, ◌&&◌, ◌||◌, nat_lt, not, Bool, List, [], ◌∷◌, ◌++◌, Option, None, Some, take, drop, length, if◌then◌else◌}
 use Rattle.std.specs.Option.{option_map}
 use Rattle.std.specs.List.{prefix_len}
 use Rattle.std.specs.Str.Parse.{digits_value}
 use Rattle.ir_types.specs.Bytes.{heads, is_digit}
 use Rattle.profile.specs.declared.lines.Line.{Line}
-use Rattle.profile.specs.Reading.{Fits, BeginsWithLine}
+use Rattle.profile.specs.Reading.{Fits}
 use Rattle.profile.specs.Text.{word, numbers, line_text}
 
 -- some digits, of which the first is 0 only where it is the only one

@@ -1,13 +1,11 @@
 -- What the text of a profile means, or why it is refused.
-use Rattle.std.specs.Prelude.{◌≡◌, ◌≢◌, ◌<◌, ◌≤◌, ◌+◌, ◌^◌, ◌⊎◌, ℕ, Bool, List, [], ◌∷◌, ◌++◌, All, IsTrue, IsFalse, Option, Some, None, Ok, Err, take, map, length, slice_get, sum_by}
-use Rattle.std.specs.declared.result.Result.{Result}
-use Rattle.std.specs.List.{AllZip, flat_map}
+use Rattle.std.specs.Prelude.{◌≡◌, ◌≢◌, ◌<◌, ◌≤◌, ◌+◌, ◌^◌, ◌⊎◌, ℕ, Bool, List, [], ◌∷◌, ◌++◌, All, IsTrue, Some, take, map, length, slice_get, sum_by}
+use Rattle.std.specs.List.{AllZip}
 use Rattle.ir_types.specs.Program.{Program}
 use Rattle.ir_types.specs.declared.syntax.Block.{Block}
 use Rattle.ir_types.specs.declared.syntax.Function.{Function}
 use Rattle.flow_graph.specs.Paths.{IsReached, AreReached}
 use Rattle.profile.specs.declared.counts.FnCounts.{FnCounts}
-use Rattle.profile.specs.declared.counts.Profile.{Profile}
 use Rattle.profile.specs.declared.reading.ProfileError.{ProfileError}
 use Rattle.profile.specs.declared.reading.ProfileError.TheVariants.{Form, Shape, Unbalanced, Unreached, Total, NoMemory}
 use Rattle.profile.specs.Counts.{defined, HasShape, IsBalanced, IsUnreachedZero, IsAccepted, entering, leaving, goes_on, total}
@@ -137,3 +135,9 @@ Refuses m bytes (Unbalanced k b into out) = SaysBad m bytes (λ counts. IsFirstB
 Refuses m bytes (Unreached k b) = SaysBad m bytes (λ counts. AllZip IsBalanced (defined m) counts × IsFirstBad IsUnreachedZero (λ f c. IsFirstUnreached f c b) (defined m) counts k)
 Refuses m bytes Total = SaysBad m bytes (λ counts. AllZip IsBalanced (defined m) counts × AllZip IsUnreachedZero (defined m) counts × (2 ^ 62 ≤ sum_by total counts))
 Refuses m bytes NoMemory = Unit {0}
+
+-- a text says the profile of one list of counts at most, or is refused for one reason at most, and not both
+pub record HasOneAnswer (m : Program) (bytes : List ℕ) : Type 0 where
+  pub one_profile : (c d : List FnCounts) → Reads m bytes c → Reads m bytes d → c ≡ d
+  pub one_refusal : (e f : ProfileError) → Refuses m bytes e → Refuses m bytes f → e ≢ NoMemory → f ≢ NoMemory → e ≡ f
+  pub not_both : (c : List FnCounts) (e : ProfileError) → Reads m bytes c → Refuses m bytes e → e ≡ NoMemory

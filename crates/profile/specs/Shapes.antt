@@ -1,5 +1,5 @@
 -- The lines of a text beside those of a module.
-use Rattle.std.specs.Prelude.{◌≡◌, ◌≢◌, ◌<◌, ◌≤◌, ◌+◌, ℕ, List, [], ◌∷◌, Some, take, drop, map, length, slice_get}
+use Rattle.std.specs.Prelude.{◌≡◌, ◌<◌, ◌≤◌, ◌+◌, ℕ, List, ◌∷◌, take, drop, length}
 use Rattle.ir_types.specs.declared.syntax.Block.{Block}
 use Rattle.ir_types.specs.declared.syntax.Function.{Function}
 use Rattle.flow_graph.specs.Slots.{slots_from}
@@ -10,7 +10,7 @@ use Rattle.profile.specs.declared.reading.ProfileError.{ProfileError}
 use Rattle.profile.specs.declared.reading.ProfileError.TheVariants.{Shape, NoMemory}
 use Rattle.profile.specs.Counts.{HasSlots}
 use Rattle.profile.specs.Text.{block_lines}
-use Rattle.profile.specs.Reading.{Outline, FunctionLine, block_outlines, IsFirstDifference}
+use Rattle.profile.specs.Reading.{Outline, IsFirstDifference}
 
 -- from an index on, the outlines differ from those that are wanted, first at this line
 pub record DiffersAt (wanted there : List Outline) (at line : ℕ) : Type 0 where

@@ -1,5 +1,5 @@
 -- Sums over slots with their counts.
-use Rattle.std.specs.Prelude.{◌≡◌, ◌≢◌, ◌<◌, ◌+◌, ◌==◌, ◌&&◌, ℕ, Bool, List, IsTrue, sum_by, slice_index, if◌then◌else◌}
+use Rattle.std.specs.Prelude.{◌≡◌, ◌≢◌, ◌<◌, ◌==◌, ◌&&◌, ℕ, Bool, List, IsTrue, sum_by, slice_index, if◌then◌else◌}
 use Rattle.std.specs.List.{zip}
 use Rattle.ir_types.specs.declared.syntax.Function.{Function}
 use Rattle.profile.specs.declared.counts.FnCounts.{FnCounts}

@@ -3,6 +3,7 @@
 
 mod checking;
 pub mod counts;
+mod laws;
 pub mod lines;
 mod numbers;
 mod printing;
@@ -11,6 +12,7 @@ mod shapes;
 mod sums;
 
 pub use counts::{FnCounts, Profile};
+pub use laws::{one_answer, reads_back};
 pub use printing::print_profile;
 pub use reading::{ProfileError, read_profile};
 pub use sums::{balanced, count_of_block};

@@ -32,10 +32,7 @@ fn read_run<'a>(bytes: &'a [u8], counts: &mut Items<u64>) -> Result<&'a [u8], No
 }
 
 /// Adds the function line of which the word is read, and gives what follows; `None` where none stands there.
-fn read_function<'a>(
-    bytes: &'a [u8],
-    lines: &mut Items<Line>,
-) -> Result<Option<&'a [u8]>, NoMemory>
+fn read_function<'a>(bytes: &'a [u8], lines: &mut Items<Line>) -> Result<Option<&'a [u8]>, NoMemory>
     ensures { IfOk result (λ r. MatchOption r (NoneBehind (codes "func") bytes.now) (λ rest. AddsBehind (codes "func") bytes.now lines.old lines.new rest.now)) }
 {
     let Some((number, rest)) = front_number(bytes) else {

@@ -1,5 +1,8 @@
 //! Reading of a profile.
-ghost use Rattle.std.specs.Prelude.{◌≡◌, ◌≤◌, ◌^◌, length, IfOk, IfErr};
+ghost use Rattle.std.specs.Prelude.{◌≡◌, ◌≤◌, ◌^◌, List, length, IfOk, IfErr, MatchResult};
+ghost use Rattle.ir_types.specs.WellFormed.{IsWellFormed};
+ghost use Rattle.profile.specs.declared.counts.FnCounts.{FnCounts};
+ghost use Rattle.profile.specs.Counts.{HasShape};
 ghost use Rattle.profile.specs.Reading.{Reads, Refuses};
 
 use crate::checking::{check_all_reached, check_balances, total_of};
@@ -57,6 +60,29 @@ impl From<AllocError> for ProfileError {
     }
 }
 
+/// A module keeps its rules. It does nothing.
+fn keeps_rules(program: &Module<'_>)
+    ensures { IsWellFormed program.now }
+{
+    let _functions = program.functions();
+}
+
+fn read(alloc: Global, bytes: &[u8], program: &Module<'_>) -> Result<Profile, ProfileError>
+    requires { length bytes.now ≤ 2 ^ 26 }
+    ensures ok { IfOk result (λ p. Reads program.now bytes.now p.functions) }
+    ensures shape { IfOk result (λ p. HasShape program.now p.functions) }
+    ensures err { IfErr result (λ e. Refuses program.now bytes.now e) }
+{
+    let lines = read_lines(alloc, bytes)?;
+    let functions = read_counts(alloc, program, lines.as_slice())?;
+    check_balances(alloc, program, functions.as_slice())?;
+    check_all_reached(alloc, program, functions.as_slice())?;
+    if total_of(functions.as_slice()) >= LEAST_TOO_MANY {
+        return Err(ProfileError::Total);
+    }
+    Ok(Profile { functions })
+}
+
 /// The counts that a text says, if they are accepted.
 ///
 /// The text is refused at the first line that is of no form, else at the first that isn't the module's, else at the first
@@ -69,14 +95,11 @@ pub fn read_profile(
 ) -> Result<Profile, ProfileError>
     requires { length bytes.now ≤ 2 ^ 26 }
     ensures ok { IfOk result (λ p. Reads program.now bytes.now p.functions) }
+    ensures shape { IfOk result (λ p. HasShape program.now p.functions) }
     ensures err { IfErr result (λ e. Refuses program.now bytes.now e) }
+    // the text of accepted counts is read as those counts, unless memory ran out
+    ensures exact { (counts : List FnCounts) → Reads program.now bytes.now counts → MatchResult result (λ p. p.functions ≡ counts) (λ e. e ≡ ProfileError.NoMemory) }
 {
-    let lines = read_lines(alloc, bytes)?;
-    let functions = read_counts(alloc, program, lines.as_slice())?;
-    check_balances(alloc, program, functions.as_slice())?;
-    check_all_reached(alloc, program, functions.as_slice())?;
-    if total_of(functions.as_slice()) >= LEAST_TOO_MANY {
-        return Err(ProfileError::Total);
-    }
-    Ok(Profile { functions })
+    keeps_rules(program);
+    read(alloc, bytes, program)
 }

@@ -1,4 +1,3 @@
-use Rattle.std.proofs.Common.{List, ℕ, ap, subst}
 use Rattle.profile.proofs.Runs.{none_run}
 use Rattle.profile.proofs.lines.read_block.Goals as goal
 

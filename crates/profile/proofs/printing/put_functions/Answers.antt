@@ -1,7 +1,6 @@
-use Rattle.std.proofs.Common.{◌≡◌, ◌++◌, ◌==◌, ℕ, List, drop, true, false, length, sym, ap, ◌∙◌, arith, subst}
-use Rattle.std.specs.Prelude.{filter}
+use Rattle.std.proofs.Common.{◌≡◌, ◌++◌, ◌==◌, drop, true, false, length, sym, ap, ◌∙◌, arith, subst}
 use Rattle.std.specs.List.{AllZip, flat_map}
-use Rattle.profile.specs.Counts.{is_defined, HasSlots}
+use Rattle.profile.specs.Counts.{HasSlots}
 use Rattle.profile.specs.Text.{line_text, function_lines}
 use Rattle.profile.proofs.Printed.{next_inside, next_is, next_put, skipped}
 use Rattle.profile.proofs.printing.put_functions.Goals as goal

@@ -1,6 +1,6 @@
-use Rattle.std.proofs.Common.{◌≡◌, ◌==◌, ◌+◌, true, false, length, sym, ap, subst, ◌∙◌, arith, refl}
+use Rattle.std.proofs.Common.{◌≡◌, ◌==◌, ◌+◌, true, false, length, sym, ap, ◌∙◌, refl}
 use Rattle.std.proofs.lemmas.Result.{err_from_is_err_and}
-use Rattle.profile.proofs.Functions.{functions_step_in, functions_skip, functions_fail_in, functions_all, lines_follow, FunctionsSoFar}
+use Rattle.profile.proofs.Functions.{functions_step_in, functions_skip, functions_fail_in, functions_all, lines_follow}
 use Rattle.profile.proofs.shapes.read_counts.Goals as goal
 use Rattle.profile.proofs.shapes.read_counts.Goals.{then-not-is_empty+in_ok-own+in_ok-push, else-not-is_empty}
 

@@ -1,8 +1,8 @@
-use Rattle.std.proofs.Common.{◌≡◌, ◌<◌, ◌+◌, ℕ, List, ◌∙◌, sym, ap, subst, take, drop, length, get_or}
+use Rattle.std.proofs.Common.{◌≡◌, ◌+◌, ℕ, List, ◌∙◌, ap, take, drop, length, get_or}
 use Rattle.flow_graph.specs.Slots.{slots_of}
 use Rattle.flow_graph.specs.Paths.{is_marked}
 use Rattle.profile.specs.Sums.{into}
-use Rattle.profile.proofs.Balancing.{AddingBlocks, blocks_yes, blocks_no}
+use Rattle.profile.proofs.Balancing.{blocks_yes, blocks_no}
 use Rattle.profile.proofs.sums.add_blocks.Goals as goal
 use Rattle.profile.proofs.sums.add_blocks.Goals.{then-reached-index, else-reached-index}
 

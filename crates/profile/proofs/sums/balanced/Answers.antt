@@ -1,4 +1,4 @@
-use Rattle.std.proofs.Common.{◌≡◌, ◌+◌, ◌==◌, cond, ℕ, List, ◌∙◌, ap, arith, length}
+use Rattle.std.proofs.Common.{◌+◌, ◌==◌, cond, ℕ, List, ◌∙◌, ap, arith}
 use Rattle.ir_types.specs.declared.syntax.Block.{Block}
 use Rattle.std.specs.List.{zip}
 use Rattle.flow_graph.specs.Slots.{slots_from}

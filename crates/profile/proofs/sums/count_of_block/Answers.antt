@@ -1,4 +1,4 @@
-use Rattle.std.proofs.Common.{◌≡◌, ◌+◌, ℕ, List, ◌∙◌, sym, ap, take, drop, length, refl, arith}
+use Rattle.std.proofs.Common.{◌≡◌, ◌∙◌, ap, take, drop, length, refl, arith}
 use Rattle.flow_graph.specs.Slots.{slots_of}
 use Rattle.profile.specs.Sums.{into}
 use Rattle.profile.proofs.Balancing.{counting_blocks, counting_end}

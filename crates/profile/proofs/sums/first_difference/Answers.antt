@@ -1,4 +1,4 @@
-use Rattle.std.proofs.Common.{◌≡◌, ℕ, List, ◌∙◌, sym, ap, take, drop, length, sum, refl}
+use Rattle.std.proofs.Common.{◌≡◌, ◌∙◌, ap, take, drop, length, sum, refl}
 use Rattle.flow_graph.specs.Slots.{slots_of}
 use Rattle.flow_graph.specs.Paths.{is_marked}
 use Rattle.profile.proofs.Balancing.{comparing_more, comparing_differs}

@@ -1,7 +1,7 @@
-use Rattle.std.proofs.Common.{◌≡◌, ℕ, List, ◌∙◌, sym, ap, take, drop, length, sum, refl}
+use Rattle.std.proofs.Common.{◌≡◌, ◌∙◌, ap, take, drop, length, sum, refl}
 use Rattle.flow_graph.specs.Slots.{slots_of}
 use Rattle.flow_graph.specs.Paths.{is_marked}
-use Rattle.profile.proofs.Balancing.{looking_more, looking_found, looking_end}
+use Rattle.profile.proofs.Balancing.{looking_more, looking_found}
 use Rattle.profile.proofs.sums.first_unreached.Goals as goal
 
 pub returns-then-is_left : goal.returns-then-is_left

@@ -1,4 +1,4 @@
-use Rattle.std.proofs.Common.{◌≡◌, ℕ, List, map, take, sym, subst, ap, ◌∙◌, refl}
+use Rattle.std.proofs.Common.{ℕ, List, map, sym, subst}
 use Rattle.std.proofs.lemmas.List.{map_more, take_all}
 use Rattle.flow_graph.specs.Searching.{Reaches}
 use Rattle.flow_graph.proofs.SearchSteps.{Reaches-both, Reaches-nil}
