@@ -1,0 +1,6 @@
+pub mod Fitting
+pub mod Loads
+pub mod Living
+pub mod Steps
+pub mod Agreeing
+pub mod Running
