@@ -4,3 +4,5 @@ pub mod Living
 pub mod Steps
 pub mod Agreeing
 pub mod Running
+pub mod Traps
+pub mod Trapping
