@@ -6,3 +6,6 @@ pub mod Agreeing
 pub mod Running
 pub mod Traps
 pub mod Trapping
+pub mod Chains
+pub mod Pairs
+pub mod Applying
