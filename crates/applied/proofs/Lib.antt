@@ -9,3 +9,5 @@ pub mod Trapping
 pub mod Chains
 pub mod Pairs
 pub mod Applying
+pub mod OneTrap
+pub mod Building

@@ -1,3 +1,4 @@
 pub mod Applied
+pub mod Built
 pub mod Motion
 pub mod Renamed
