@@ -1,3 +1,19 @@
+-- What stands at each place of the module that is built place by place.
+use Rattle.std.proofs.Common.{◌≡◌, ◌-◌, ℕ, zero, suc, ◌+◌, ◌≤◌, ◌<◌, Bool, true, false, if◌then◌else◌, List, [], ◌∷◌, ◌++◌, length, Some, refl, sym, ap, ◌∙◌, subst, arith, ⊎_elim, length-append, append_assoc}
+use Rattle.std.specs.Prelude.{slice_get}
+use Rattle.std.proofs.lemmas.Bool.{cases_lt}
+use Rattle.std.proofs.lemmas.Option.{slice_get_within}
+use Rattle.ir_types.specs.Program.{Program}
+use Rattle.ir_types.specs.WellFormed.{targets}
+use Rattle.ir_types.specs.declared.syntax.Instr.{Instr}
+use Rattle.ir_types.specs.declared.syntax.Terminator.{Terminator}
+use Rattle.ir_types.specs.declared.syntax.Block.{Block}
+use Rattle.ir_types.specs.declared.syntax.Function.{Function}
+use Rattle.applied.specs.Motion.{Place, Slot, slot_target, Move}
+use Rattle.applied.specs.Applied.{Naming, Plan, StandsAt, groups_along, edges_before, copied, stores, has_groups, Layout, splits_before, is_single, splits_at, block_count, split_block, IsSplit, BlockApplied, FunctionApplied, AllApplied, IsApplied}
+use Rattle.applied.specs.Built.{start_of, number_of, text_from, new_block, split_one, splits_from, split_blocks, new_blocks, home_from, layout_of, applied_function, applied_from, applied}
+use Rattle.applied.proofs.Steps.{stands_whole, stands_further}
+
 stands_behind : (front text : List Instr) (n : ℕ) (instrs' : List Instr) → StandsAt text n instrs' → StandsAt (front ++ text) (length front + n) instrs'
 stands_behind [] text n instrs' stands = let e : n ≡ 0 + n = omega arith in subst (λ k. StandsAt text k instrs') e stands
 stands_behind (instr ∷ front) text n instrs' stands =
@@ -23,7 +39,7 @@ module _ (naming : Naming) (moves : List Move) (vars b : ℕ) (block : Block) wh
   abbrev groups_at : ℕ → List Instr
   groups_at k = groups_along naming (start k) vars (edges_before b k block) moves
 
-  abbrev copy_at : ℕ → Kind → List Instr
+  abbrev copy_at : ℕ → Instr → List Instr
   copy_at k instr = copied vars number (Place b k) instr moves ∷ stores vars (number k) b k moves
 
   -- what stands in the text from the place k on

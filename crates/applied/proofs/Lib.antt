@@ -11,3 +11,4 @@ pub mod Pairs
 pub mod Applying
 pub mod OneTrap
 pub mod Building
+pub mod Pinning
