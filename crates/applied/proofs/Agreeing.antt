@@ -24,9 +24,8 @@ use Rattle.ir_machine.specs.Step.{blocks_of}
 use Rattle.machines.proofs.ByFrames.{Comes, AnswersAct}
 use Rattle.applied.proofs.Steps.{Further}
 use Rattle.applied.specs.Renamed.{renamed, renamed_kind}
-use Rattle.applied.specs.Motion.{defined_in}
 use Rattle.applied.proofs.Fitting.{IsEarlier, AreEarlier, VariableWithin, KindFits}
-use Rattle.applied.proofs.Loads.{Done, GoesOn, behind}
+use Rattle.applied.proofs.Loads.{GoesOn}
 
 -- the new frame has the old one's registers under their new numbers, and its variables with some more behind them
 pub record Agrees (number : ℕ → ℕ) (extra : List ℕ) (f f' : Frame) : Type 0 where

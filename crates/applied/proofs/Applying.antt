@@ -6,11 +6,10 @@ use Rattle.std.proofs.lemmas.List.{length-replicate, replicate-append-replicate,
 use Rattle.std.proofs.lemmas.Option.{slice_get_past, slice_get_within}
 use Rattle.mc_num.specs.Value.{value_of}
 use Rattle.ir_types.specs.Program.{Program}
-use Rattle.ir_types.specs.WellFormed.{targets, IsWellFormed}
+use Rattle.ir_types.specs.WellFormed.{IsWellFormed}
 use Rattle.ir_types.specs.declared.syntax.Operand.{Operand}
 use Rattle.ir_types.specs.declared.syntax.Operand.TheVariants.{Const, Param, Reg}
 use Rattle.ir_types.specs.declared.syntax.Variable.TheVariants.{Local}
-use Rattle.ir_types.specs.declared.syntax.Kind.{Kind}
 use Rattle.ir_types.specs.declared.syntax.Kind.TheVariants.{Load, Compute}
 use Rattle.ir_types.specs.declared.syntax.Instr.{Instr}
 use Rattle.ir_types.specs.declared.syntax.Terminator.{Terminator}
@@ -25,7 +24,7 @@ use Rattle.ir_machine.specs.declared.frame.Frame.{Frame}
 use Rattle.ir_machine.specs.Step.{Globals, value_in, past, computed, first_frame, instr_act, term_act, branched, switched, takes, block_act, act_in, block_at, blocks_of, frames_of, written}
 use Rattle.ir_machine.specs.Same.{Same, is_defined}
 use Rattle.applied.specs.Renamed.{renamed_kind}
-use Rattle.applied.specs.Motion.{Point, Start, Head, Place, Edge, Entry, Inside, Slot, slot_target, Joins, IsReached, arg_in, Expr, expr_in, OccursIn, Move, IsMove}
+use Rattle.applied.specs.Motion.{Point, Start, Head, Place, Edge, Entry, Inside, Slot, slot_target, Joins, IsReached, Expr, expr_in, OccursIn, Move, IsMove}
 use Rattle.applied.specs.Applied.{Naming, Plan, StandsAt, groups, groups_along, edges_before, leaving, copied, is_stored, stores, has_groups, new_target, new_cases, new_term, is_single, temporaries, BlockApplied, split_block, FunctionApplied, IsApplied, AreMoves}
 use Rattle.applied.proofs.Fitting.{IsEarlier, KindFits, EndFits, FunctionFits, function_fits}
 use Rattle.applied.proofs.Loads.{Done, GoesOn, behind, length_done}
@@ -200,29 +199,34 @@ module _ (m m' : Program) (plans : ℕ → Plan) (rules : IsWellFormed m) (are_m
       let new = applied.blocks 0 found.0 found.1 in
       let moves = (plans i).moves in
       let extra = replicate (length moves) 0 in
-      let count : length function'.vars ≡ length function.vars + length moves = ap length applied.vars ∙ length-append function.vars (temporaries (plans i).naming moves) ∙ ap (λ n. length function.vars + n) (length_temporaries (plans i).naming moves) in
-      (0, (refl, Before (record {
-        pair = pair;
-        block = found.0;
-        block' = new.0;
-        k = 0;
-        len = refl;
-        in_block = at_head_of m function found.0 globals f there found.1 refl;
-        text = new.2;
-        at_start = sym new.2.start_zero;
-        from = Start;
-        joins = (refl, refl);
-        reached = record { path = []; leads = refl };
-        ready = record {
-          extra = extra;
-          agrees = (let agrees : Agrees new.2.number extra f g = record { function = refl; arguments = refl; variables = ap (λ n. replicate n 0) count ∙ sym (replicate-append-replicate (length function.vars) (length moves) 0); within = λ k lt. absurd (omega (arith, lt)); registers = λ k lt. absurd (omega (arith, lt)) } in agrees);
-          size = length-replicate (length moves) 0;
-          here = ap (λ o. slice_get (blocks_of o) 0) there' ∙ ap (slice_get function'.blocks) (sym applied.home_first) ∙ new.1;
-          facts = λ x move is live.
-              let is_move = moves_are f pair x move is in
-              absurd (not_at_start m function move is_move Entry Start (Head 0) (refl, refl) live.1 live.0 (unkept m function Start move is_move (λ e o. o) _ refl) (record { path = []; leads = refl }) refl);
-        };
-      })))
+      let count : length function'.vars ≡ length function.vars + length moves = ap length applied.vars ∙ length-append function.vars (temporaries (plans i).naming moves) ∙ ap (λ n. length function.vars + n) (length_temporaries (plans i).naming moves) in (
+        0,
+        (
+          refl,
+          Before (record {
+            pair = pair;
+            block = found.0;
+            block' = new.0;
+            k = 0;
+            len = refl;
+            in_block = at_head_of m function found.0 globals f there found.1 refl;
+            text = new.2;
+            at_start = sym new.2.start_zero;
+            from = Start;
+            joins = (refl, refl);
+            reached = record { path = []; leads = refl };
+            ready = record {
+              extra = extra;
+              agrees = (let agrees : Agrees new.2.number extra f g = record { function = refl; arguments = refl; variables = ap (λ n. replicate n 0) count ∙ sym (replicate-append-replicate (length function.vars) (length moves) 0); within = λ k lt. absurd (omega (arith, lt)); registers = λ k lt. absurd (omega (arith, lt)) } in agrees);
+              size = length-replicate (length moves) 0;
+              here = ap (λ o. slice_get (blocks_of o) 0) there' ∙ ap (slice_get function'.blocks) (sym applied.home_first) ∙ new.1;
+              facts = λ x move is live.
+                  let is_move = moves_are f pair x move is in
+                  absurd (not_at_start m function move is_move Entry Start (Head 0) (refl, refl) live.1 live.0 (unkept m function Start move is_move (λ e o. o) _ refl) (record { path = []; leads = refl }) refl);
+            };
+          }),
+        ),
+      )
 
   entered_alike : (i : ℕ) (function function' : Function) → slice_get m.functions i ≡ Some function → slice_get m'.functions i ≡ Some function' → FunctionApplied (plans i) function function' → (blocks blocks' : List Block) → function.blocks ≡ blocks → function'.blocks ≡ blocks' → EnteredAlike m m' Related i function function' blocks blocks'
   entered_alike i function function' there there' applied [] [] e e' = applied.name
@@ -420,20 +424,26 @@ module _ (m m' : Program) (plans : ℕ → Plan) (rules : IsWellFormed m) (are_m
           stores_run m m' Related block' naming moves text.number after f1 f.block k number v (LiveOn next_edge next_point) (stored_values v V after done)
           moves 0 (λ i. let e : i ≡ 0 + i = omega arith in ap (slice_get moves) e)
           (suc number) vars g1 (omega (arith, size, pair.vars)) (omega (arith, length-append g.registers (v ∷ []), at)) stands value (omega arith) ready1
-          (λ h stored. (0, (refl, Before (record {
-            pair = pair_past f v V size pair;
-            block = block;
-            block' = block';
-            k = suc k;
-            len = omega (arith, length-append f.registers (v ∷ []), len);
-            in_block = in_block_past m pair.function block globals f in_block instr (ap (slice_get block.instrs) len ∙ is) v V after done;
-            text = text;
-            at_start = stored.1 ∙ sym (text.start_next k);
-            from = here;
-            joins = next_joins;
-            reached = reached;
-            ready = stored.0;
-          }))))
+          (λ h stored. (
+            0,
+            (
+              refl,
+              Before (record {
+                pair = pair_past f v V size pair;
+                block = block;
+                block' = block';
+                k = suc k;
+                len = omega (arith, length-append f.registers (v ∷ []), len);
+                in_block = in_block_past m pair.function block globals f in_block instr (ap (slice_get block.instrs) len ∙ is) v V after done;
+                text = text;
+                at_start = stored.1 ∙ sym (text.start_next k);
+                from = here;
+                joins = next_joins;
+                reached = reached;
+                ready = stored.0;
+              }),
+            ),
+          ))
 
       instr_fits : KindFits (length f.registers) (length f.variables) instr.kind
       instr_fits =

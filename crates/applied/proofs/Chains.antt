@@ -1,5 +1,5 @@
 -- The groups of edges that follow one another run one after another.
-use Rattle.std.proofs.Common.{◌≡◌, ℕ, zero, suc, ◌+◌, Bool, true, false, List, [], ◌∷◌, length, Some, None, Err, refl, sym, ap, ◌∙◌, subst, arith, length-append}
+use Rattle.std.proofs.Common.{◌≡◌, ℕ, ◌+◌, Bool, true, false, List, [], ◌∷◌, length, Some, None, Err, refl, sym, ap, ◌∙◌, subst, arith, length-append}
 use Rattle.std.specs.Prelude.{slice_get}
 use Rattle.std.specs.List.{AllZip}
 use Rattle.mc_num.specs.Op.{argument_widths}
@@ -7,15 +7,14 @@ use Rattle.mc_num.specs.declared.op.Trap.{Trap}
 use Rattle.ir_types.specs.Program.{Program}
 use Rattle.ir_types.specs.declared.syntax.Operand.{Operand}
 use Rattle.ir_types.specs.declared.syntax.Operand.TheVariants.{Const, Param, Reg}
-use Rattle.ir_types.specs.declared.syntax.Kind.TheVariants.{Load, Compute}
 use Rattle.ir_types.specs.declared.syntax.Block.{Block}
 use Rattle.ir_types.specs.declared.syntax.Function.{Function}
 use Rattle.machines.proofs.ByFrames.{TrapsIn}
 use Rattle.ir_machine.specs.declared.frame.Frame.{Frame}
 use Rattle.ir_machine.specs.Step.{Globals, frames_of}
-use Rattle.applied.specs.Motion.{Point, Start, Head, Place, Edge, Joins, IsReached, Arg, ConstArg, ParamArg, VarArg, Expr, expr_in, IsArg, OccursIn, Occurs, IsInevitable, Move, IsMove}
+use Rattle.applied.specs.Motion.{Point, Start, Head, Place, Edge, Joins, IsReached, Arg, ConstArg, ParamArg, VarArg, Expr, expr_in, IsArg, Occurs, IsInevitable, Move, IsMove}
 use Rattle.applied.specs.Applied.{Naming, StandsAt, groups, groups_along}
-use Rattle.applied.proofs.Fitting.{VariableWithin, KindFits, FunctionFits, length_zip}
+use Rattle.applied.proofs.Fitting.{KindFits, FunctionFits, length_zip}
 use Rattle.applied.proofs.Traps.{expr_can_trap}
 use Rattle.applied.proofs.Steps.{stands_both}
 use Rattle.applied.proofs.Living.{reached_next, live_before}
@@ -123,9 +122,11 @@ module _ (m m' : Program) (related : Globals → Frame → Frame → Type 0) (bl
 
   runs_along : (edges : List Edge) → RunsAlong edges
   runs_along [] w v reached chain n g len stands ready next =
-      next g
-      (ready_by m' block' moves number (λ i move. LiveAt w move) _ globals f g ready (λ i move there l. subst (λ x. move.live x ≡ true) (sym chain) l),
-      omega (arith, len), subst (IsReached function) chain reached)
+      next g (
+        ready_by m' block' moves number (λ i move. LiveAt w move) _ globals f g ready (λ i move there l. subst (λ x. move.live x ≡ true) (sym chain) l),
+        omega (arith, len),
+        subst (IsReached function) chain reached,
+      )
   runs_along (edge ∷ edges) w v reached chain n g len stands ready next =
       edge_run edges (runs_along edges) edge w chain.1 v chain.2 reached chain.3 chain.4 n g len stands
       (ready_by m' block' moves number (λ i move. LiveAt w move) _ globals f g ready (live_back edge w chain.1 chain.0 chain.2 reached))

@@ -6,7 +6,6 @@ use Rattle.std.proofs.lemmas.List.{get_or_append_left, get_or-set_other}
 use Rattle.std.proofs.lemmas.Bool.{cases_lt}
 use Rattle.mc_num.specs.Value.{value_of}
 use Rattle.ir_types.specs.Program.{Program}
-use Rattle.ir_types.specs.declared.syntax.Operand.{Operand}
 use Rattle.ir_types.specs.declared.syntax.Variable.{Variable}
 use Rattle.ir_types.specs.declared.syntax.Variable.TheVariants.{Local, Global}
 use Rattle.ir_types.specs.declared.syntax.Kind.{Kind}

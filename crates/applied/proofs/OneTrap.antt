@@ -1,5 +1,5 @@
 -- At most one expression that can trap is inevitable at a point.
-use Rattle.std.proofs.Common.{◌≡◌, ℕ, zero, suc, List, [], ◌∷◌, Option, Some, None, true, refl, sym, ap, ◌∙◌, subst, inl, inr, ⊎_elim}
+use Rattle.std.proofs.Common.{◌≡◌, ℕ, zero, suc, List, [], ◌∷◌, Some, true, refl, sym, ap, ◌∙◌, subst, inl, inr, ⊎_elim}
 use Rattle.std.specs.Prelude.{◌⊎◌, slice_get}
 use Rattle.std.specs.List.{AllZip}
 use Rattle.mc_num.specs.Value.{traps_at}
@@ -8,11 +8,10 @@ use Rattle.ir_types.specs.Program.{Program}
 use Rattle.ir_types.specs.declared.syntax.Operand.{Operand}
 use Rattle.ir_types.specs.declared.syntax.Operand.TheVariants.{Const, Param, Reg}
 use Rattle.ir_types.specs.declared.syntax.Variable.{Variable}
-use Rattle.ir_types.specs.declared.syntax.Kind.{Kind}
 use Rattle.ir_types.specs.declared.syntax.Kind.TheVariants.{Load, Compute}
 use Rattle.ir_types.specs.declared.syntax.Instr.{Instr}
 use Rattle.ir_types.specs.declared.syntax.Function.{Function}
-use Rattle.applied.specs.Motion.{Point, Start, Head, Place, Arg, ConstArg, ParamArg, VarArg, Expr, IsLoaded, IsArg, OccursIn, Occurs, Kills, constant_operand, constant_arg, expr_traps, KindBars, PlaceBars, Bars, LeadsAllTo, IsInevitableWithin, IsInevitable}
+use Rattle.applied.specs.Motion.{Point, Start, Head, Place, Arg, ConstArg, ParamArg, VarArg, Expr, IsLoaded, IsArg, Occurs, Kills, constant_operand, constant_arg, expr_traps, KindBars, PlaceBars, Bars, LeadsAllTo, IsInevitableWithin, IsInevitable}
 
 one_loaded : (m : Program) (instrs : List Instr) (k r : ℕ) (x y : Variable) → IsLoaded m instrs k r x → IsLoaded m instrs k r y → x ≡ y
 one_loaded m instrs k r x y is is' =

@@ -1,7 +1,7 @@
 -- Functions and their new texts, pair by pair.
 use Rattle.std.proofs.Common.{◌≡◌, ℕ, zero, suc, ◌+◌, Bool, true, false, List, [], ◌∷◌, length, map, Option, Some, None, refl, sym, ap, ◌∙◌, subst, arith}
 use Rattle.std.specs.Prelude.{slice_get, if◌then◌else◌}
-use Rattle.ir_types.specs.WellFormed.{Signature, signature, widths}
+use Rattle.ir_types.specs.WellFormed.{widths}
 use Rattle.mc_num.specs.declared.op.Width.{Width}
 use Rattle.ir_types.specs.declared.syntax.Variable.TheVariants.{Local}
 use Rattle.ir_types.specs.declared.syntax.Instr.{Instr}

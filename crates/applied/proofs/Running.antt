@@ -242,24 +242,31 @@ module _ (m m' : Program) (related : Globals → Frame → Frame → Type 0) (bl
             let behind = groups naming (n + 0) (suc temp) edge rest in
             runs (n + 0) (suc temp) f' (omega (arith, at)) (omega (arith, len)) (subst (λ k. StandsAt block'.instrs k behind) e stands)
             (ready_by m' block' moves number (Stage x) (Stage (suc x)) globals f f' ready
-            (λ i other at' l. (l.0, λ le. ⊎_elim
-            (λ (e' : i ≡ x).
-            let both : Some move ≡ Some other = sym there ∙ ap (slice_get moves) (sym e') ∙ at' in
-            let same : move ≡ other = cc in
-            ap (λ o. o.inserted edge) (sym same) ∙ is)
-            (λ (ne : i ≡ x → ⊥). l.1 (omega (arith, le, ne)))
-            (cases_eq i x))))
+            (λ i other at' l. (
+              l.0,
+              λ le. ⊎_elim
+                  (λ (e' : i ≡ x).
+                  let both : Some move ≡ Some other = sym there ∙ ap (slice_get moves) (sym e') ∙ at' in
+                  let same : move ≡ other = cc in
+                  ap (λ o. o.inserted edge) (sym same) ∙ is)
+                  (λ (ne : i ≡ x → ⊥). l.1 (omega (arith, le, ne)))
+                  (cases_eq i x),
+            )))
             (λ h arrived. next h (arrived.0, omega (arith, arrived.1)))
 
         pub groups_run : (traps : TrapsAlike) (rest : List Move) (x : ℕ) → ((i : ℕ) → slice_get rest i ≡ slice_get moves (x + i)) → Runs rest x
         groups_run traps [] x suffix n temp f' at len stands ready next =
-            next f'
-            (ready_by m' block' moves number (Stage x) (λ i move. Live move) globals f f' ready
-            (λ i move there live. (live, λ le.
-            let e : x + (i - x) ≡ i = omega (arith, le) in
-            let none : None ≡ Some move = suffix (i - x) ∙ ap (slice_get moves) e ∙ there in
-            absurd cc)),
-            omega (arith, len))
+            next f' (
+              ready_by m' block' moves number (Stage x) (λ i move. Live move) globals f f' ready
+                  (λ i move there live. (
+                    live,
+                    λ le.
+                        let e : x + (i - x) ≡ i = omega (arith, le) in
+                        let none : None ≡ Some move = suffix (i - x) ∙ ap (slice_get moves) e ∙ there in
+                        absurd cc,
+                  )),
+              omega (arith, len),
+            )
         groups_run traps (move ∷ rest) x suffix n temp f' at len stands ready next =
             let e : x + 0 ≡ x = omega arith in
             let there : slice_get moves x ≡ Some move = sym (suffix 0 ∙ ap (slice_get moves) e) in
@@ -303,24 +310,31 @@ module _ (m m' : Program) (related : Globals → Frame → Frame → Type 0) (bl
         one_store move rest x there runs false is n temp f' at len stands value lt ready next =
             runs n (suc temp) f' (omega (arith, at)) len stands value lt
             (ready_by m' block' moves number (StoreStage x) (StoreStage (suc x)) globals f f' ready
-            (λ i other at' l. (l.0, λ le. ⊎_elim
-            (λ (e' : i ≡ x).
-            let both : Some move ≡ Some other = sym there ∙ ap (slice_get moves) (sym e') ∙ at' in
-            let same : move ≡ other = cc in
-            ap (λ o. is_stored o b k) (sym same) ∙ is)
-            (λ (ne : i ≡ x → ⊥). l.1 (omega (arith, le, ne)))
-            (cases_eq i x))))
+            (λ i other at' l. (
+              l.0,
+              λ le. ⊎_elim
+                  (λ (e' : i ≡ x).
+                  let both : Some move ≡ Some other = sym there ∙ ap (slice_get moves) (sym e') ∙ at' in
+                  let same : move ≡ other = cc in
+                  ap (λ o. is_stored o b k) (sym same) ∙ is)
+                  (λ (ne : i ≡ x → ⊥). l.1 (omega (arith, le, ne)))
+                  (cases_eq i x),
+            )))
             (λ h stored. next h (stored.0, stored.1))
 
         pub stores_run : (rest : List Move) (x : ℕ) → ((i : ℕ) → slice_get rest i ≡ slice_get moves (x + i)) → RunsStores rest x
         stores_run [] x suffix n temp f' at len stands value lt ready next =
-            next f'
-            (ready_by m' block' moves number (StoreStage x) (λ i move. Live move) globals f f' ready
-            (λ i move there live. (live, λ le.
-            let e : x + (i - x) ≡ i = omega (arith, le) in
-            let none : None ≡ Some move = suffix (i - x) ∙ ap (slice_get moves) e ∙ there in
-            absurd cc)),
-            omega (arith, len))
+            next f' (
+              ready_by m' block' moves number (StoreStage x) (λ i move. Live move) globals f f' ready
+                  (λ i move there live. (
+                    live,
+                    λ le.
+                        let e : x + (i - x) ≡ i = omega (arith, le) in
+                        let none : None ≡ Some move = suffix (i - x) ∙ ap (slice_get moves) e ∙ there in
+                        absurd cc,
+                  )),
+              omega (arith, len),
+            )
         stores_run (move ∷ rest) x suffix n temp f' at len stands value lt ready next =
             let e : x + 0 ≡ x = omega arith in
             let there : slice_get moves x ≡ Some move = sym (suffix 0 ∙ ap (slice_get moves) e) in

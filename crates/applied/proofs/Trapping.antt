@@ -1,5 +1,5 @@
 -- Where a trap of an expression is inevitable the old run comes to it by itself.
-use Rattle.std.proofs.Common.{◌+◌, Bool, true, false, if◌then◌else◌, ◌≡◌, ℕ, zero, suc, ◌<◌, ◌≤◌, List, [], ◌∷◌, length, map, Option, Some, None, Ok, Err, refl, sym, ap, ◌∙◌, subst, arith, inl, inr, ⊎_elim, length-append}
+use Rattle.std.proofs.Common.{◌+◌, Bool, true, false, if◌then◌else◌, ◌≡◌, ℕ, zero, suc, ◌<◌, ◌≤◌, List, [], ◌∷◌, length, map, Option, Some, None, Err, refl, sym, ap, ◌∙◌, subst, arith, inl, inr, ⊎_elim, length-append}
 use Rattle.std.specs.Prelude.{◌==◌, slice_get, slice_index, slice_set}
 use Rattle.std.specs.List.{AllZip}
 use Rattle.std.proofs.lemmas.Option.{slice_get_within}
@@ -19,7 +19,7 @@ use Rattle.ir_types.specs.declared.syntax.Function.{Function}
 use Rattle.machines.specs.Acts.{Act, Slot as TakenSlot, Goes, Traps}
 use Rattle.machines.proofs.ByFrames.{TrapsIn}
 use Rattle.ir_machine.specs.declared.frame.Frame.{Frame}
-use Rattle.ir_machine.specs.Step.{Globals, value_in, variable_in, past, computed, instr_act, block_act, act_in, block_at, blocks_of, term_act, branched, switched, frames_of}
+use Rattle.ir_machine.specs.Step.{Globals, value_in, variable_in, computed, instr_act, block_act, act_in, block_at, blocks_of, term_act, branched, switched, frames_of}
 use Rattle.applied.specs.Motion.{Point, Start, Head, Place, Edge, Inside, Slot, slot_target, Joins, Arg, ConstArg, ParamArg, VarArg, ChangesArg, ChangesSome, Expr, arg_in, expr_in, IsArg, OccursIn, Occurs, Kills, KindBars, TermBars, PlaceBars, Bars, LeadsAllTo, IsInevitableWithin}
 use Rattle.applied.proofs.Fitting.{KindFits, FunctionFits}
 use Rattle.applied.proofs.Loads.{Done, behind, LoadsHold, loads_hold, kept}
@@ -144,11 +144,13 @@ module _ (m : Program) (function : Function) (fits : FunctionFits function) (e :
   traps_here (Place b k) block globals f occurs at here value =
       let there = ap (slice_get function.blocks) (sym at.0) ∙ here.block_there in
       let same : occurs.block ≡ block = let both : Some occurs.block ≡ Some block = sym occurs.block_there ∙ there in cc in
-      let is : slice_get block.instrs (length f.registers) ≡ Some occurs.instr = ap (λ x. slice_get x.instrs (length f.registers)) (sym same) ∙ ap (slice_get occurs.block.instrs) at.1 ∙ occurs.here in
-      (0, ap (λ o. act_in m o globals f) (found_block m function block f here.function_there here.block_there)
-      ∙ ap (λ o. block_act m o block.term globals f) is
-      ∙ ap (λ kind. instr_act m kind globals f) occurs.computes
-      ∙ ap (λ r. computed r globals f) (occurrence_value m function e b k globals f block there occurs at.1 here.loads ∙ value))
+      let is : slice_get block.instrs (length f.registers) ≡ Some occurs.instr = ap (λ x. slice_get x.instrs (length f.registers)) (sym same) ∙ ap (slice_get occurs.block.instrs) at.1 ∙ occurs.here in (
+        0,
+        ap (λ o. act_in m o globals f) (found_block m function block f here.function_there here.block_there)
+            ∙ ap (λ o. block_act m o block.term globals f) is
+            ∙ ap (λ kind. instr_act m kind globals f) occurs.computes
+            ∙ ap (λ r. computed r globals f) (occurrence_value m function e b k globals f block there occurs at.1 here.loads ∙ value),
+      )
 
   step_on : (globals globals' : Globals) (f g : Frame) (slot : Option TakenSlot) → (frames_of m).act globals f ≡ Goes slot g globals' → Comes globals' g → Comes globals f
   step_on globals globals' f g slot act comes = (suc comes.0, alone_goes (frames_of m) comes.0 (λ g h. (frames_of m).act g h ≡ Traps trap) globals globals' f g slot act comes.1)
@@ -195,7 +197,6 @@ module _ (m : Program) (function : Function) (fits : FunctionFits function) (e :
       (through_slot k block globals f 0 then_block comes here all len (ap (λ t. slot_target t 0) is) value)
       (through_slot k block globals f 1 else_block comes here all len (ap (λ t. slot_target t 1) is) value)
       act
-
   term_goes k block globals f (Switch width operand other cases) is comes here all unbarred len act value =
       cases_go block globals f (value_in f operand) 1 other cases
       (λ at target leads. through_slot k block globals f at target comes here all len leads value)

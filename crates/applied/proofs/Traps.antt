@@ -1,5 +1,5 @@
 -- An operation traps only where it can.
-use Rattle.std.proofs.Common.{◌≡◌, ℕ, suc, ◌/◌, ◌%◌, ◌+◌, Bool, true, false, List, [], ◌∷◌, length, map, Option, Some, None, Result, Ok, Err, arith, ◌==◌, ◌&&◌, ◌||◌, if◌then◌else◌, refl, slice_get, int_div, int_rem, sym, ap, ◌∙◌, subst}
+use Rattle.std.proofs.Common.{◌≡◌, ℕ, suc, ◌/◌, ◌%◌, Bool, true, false, List, [], ◌∷◌, length, map, Option, Some, None, Result, Ok, Err, arith, ◌==◌, ◌&&◌, ◌||◌, if◌then◌else◌, refl, slice_get, int_div, int_rem, ap, ◌∙◌, subst}
 use Rattle.mc_num.specs.Op.{argument_widths}
 use Rattle.mc_num.specs.Value.{value_of, AgreeWith, traps_at, least, minus_one, binary_value, signed, modulo}
 use Rattle.mc_num.specs.declared.op.Width.{Width}

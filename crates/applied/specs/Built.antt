@@ -1,5 +1,5 @@
 -- The applied module as a function: one place after another.
-use Rattle.std.specs.Prelude.{Option, Some, None, ℕ, Bool, zero, suc, ◌+◌, if◌then◌else◌, List, [], ◌∷◌, ◌++◌, length, slice_get}
+use Rattle.std.specs.Prelude.{ℕ, Bool, zero, suc, ◌+◌, if◌then◌else◌, List, [], ◌∷◌, ◌++◌, length, slice_get}
 use Rattle.ir_types.specs.Program.{Program}
 use Rattle.ir_types.specs.WellFormed.{targets}
 use Rattle.ir_types.specs.declared.syntax.Instr.{Instr}

@@ -1,5 +1,5 @@
 -- The same text where registers have other numbers.
-use Rattle.std.specs.Prelude.{ℕ, List, Option, Some, None, map}
+use Rattle.std.specs.Prelude.{ℕ, Option, Some, None, map}
 use Rattle.ir_types.specs.declared.syntax.Operand.{Operand}
 use Rattle.ir_types.specs.declared.syntax.Operand.TheVariants.{Const, Param, Reg}
 use Rattle.ir_types.specs.declared.syntax.Kind.{Kind}

@@ -12,17 +12,13 @@ ghost use Rattle.applied.specs.Built.{applied};
 
 /// Whatever the module and the correct and safe placements, the new module does what the old one does.
 pub fn applied_same()
-    ensures {
-        (m m_new : Program) (plans : ℕ → Plan) → IsWellFormed m → AreMoves m plans → IsApplied m plans m_new → Same m m_new
-    }
+    ensures { (m m_new : Program) (plans : ℕ → Plan) → IsWellFormed m → AreMoves m plans → IsApplied m plans m_new → Same m m_new }
 {}
 
 /// At most one expression that can trap is inevitable at a point, so the order of groups never decides a trap.
 pub fn one_can_trap()
-    ensures {
-        (program : Program) (function : Function) (e other : Expr) (v : Point) → expr_traps e ≡ true → expr_traps other ≡ true
-        → IsInevitable program function e v → IsInevitable program function other v → e ≡ other
-    }
+    ensures { (program : Program) (function : Function) (e other : Expr) (v : Point) → expr_traps e ≡ true → expr_traps other ≡ true
+        → IsInevitable program function e v → IsInevitable program function other v → e ≡ other }
 {}
 
 /// One module has at each place what stands there in the applied module: the one that is built place by place.
