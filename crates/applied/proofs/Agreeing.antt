@@ -35,6 +35,12 @@ pub record Agrees (number : ℕ → ℕ) (extra : List ℕ) (f f' : Frame) : Typ
   pub within : (k : ℕ) → k < length f.registers → number k < length f'.registers
   pub registers : (k : ℕ) → k < length f.registers → slice_index f'.registers (number k) ≡ slice_index f.registers k
 
+-- at the head of a block no register is read
+pub agrees_at_head : (number : ℕ → ℕ) (extra : List ℕ) (f f' : Frame) → f.registers ≡ [] → f'.function ≡ f.function → f'.arguments ≡ f.arguments → f'.variables ≡ f.variables ++ extra → Agrees number extra f f'
+agrees_at_head number extra f f' none function arguments variables =
+    let nothing : (k : ℕ) → k < length f.registers → ⊥ = λ k lt. omega (arith, lt, ap length none) in
+    record { function = function; arguments = arguments; variables = variables; within = λ k lt. absurd (nothing k lt); registers = λ k lt. absurd (nothing k lt) }
+
 module _ (number : ℕ → ℕ) (extra : List ℕ) (f f' : Frame) (agrees : Agrees number extra f f') where
   pub value_agrees : (operand : Operand) → IsEarlier (length f.registers) operand → value_in f' (renamed number operand) ≡ value_in f operand
   value_agrees (Const n) earlier = refl

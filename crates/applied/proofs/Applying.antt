@@ -30,7 +30,7 @@ use Rattle.applied.proofs.Fitting.{IsEarlier, KindFits, EndFits, FunctionFits, f
 use Rattle.applied.proofs.Loads.{Done, GoesOn, behind, length_done}
 use Rattle.applied.proofs.Steps.{stands_whole, acts, goes, alone_goes}
 use Rattle.applied.proofs.Living.{live_before, unkilled_before, not_at_start, not_true, reached_next, live_at_deleted}
-use Rattle.applied.proofs.Agreeing.{Agrees, value_agrees, agrees_past, CalleesAlike, EnteredAlike, instr_answers}
+use Rattle.applied.proofs.Agreeing.{agrees_at_head, value_agrees, agrees_past, CalleesAlike, EnteredAlike, instr_answers}
 use Rattle.applied.proofs.Running.{Ready, stores_run, args_same}
 use Rattle.applied.proofs.Trapping.{block_found, expr_kept, occurrence_value, past_end, InBlock, found_block, at_head_of, in_block_past, AtPoint, comes_within}
 use Rattle.applied.proofs.Chains.{LiveOn, LiveAt, unkept, never_at_end, TrapsFrom, Chain, chain_run}
@@ -167,7 +167,6 @@ module _ (m m' : Program) (plans : ℕ → Plan) (rules : IsWellFormed m) (are_m
   at_home globals f g pair extra lt within none none' function block arguments variables size reached facts =
       let found = block_found pair.function.blocks f.block within in
       let new = pair.applied.blocks f.block found.0 found.1 in
-      let nothing : (k : ℕ) → k < length f.registers → ⊥ = λ k lt. omega (arith, lt, ap length none) in
       record {
         pair = pair;
         block = found.0;
@@ -182,7 +181,7 @@ module _ (m m' : Program) (plans : ℕ → Plan) (rules : IsWellFormed m) (are_m
         reached = reached;
         ready = record {
           extra = extra;
-          agrees = record { function = function; arguments = arguments; variables = variables; within = λ k lt. absurd (nothing k lt); registers = λ k lt. absurd (nothing k lt) };
+          agrees = agrees_at_head new.2.number extra f g none function arguments variables;
           size = size;
           here = ap (λ i. block_at m' i g.block) function ∙ ap (block_at m' f.function) block ∙ ap (λ o. slice_get (blocks_of o) (pair.applied.layout.home f.block)) pair.there' ∙ new.1;
           facts = λ x move is live. facts x move is (live_into f pair found.0 f.block lt found.1 reached x move is live);
@@ -217,7 +216,7 @@ module _ (m m' : Program) (plans : ℕ → Plan) (rules : IsWellFormed m) (are_m
             reached = record { path = []; leads = refl };
             ready = record {
               extra = extra;
-              agrees = (let agrees : Agrees new.2.number extra f g = record { function = refl; arguments = refl; variables = ap (λ n. replicate n 0) count ∙ sym (replicate-append-replicate (length function.vars) (length moves) 0); within = λ k lt. absurd (omega (arith, lt)); registers = λ k lt. absurd (omega (arith, lt)) } in agrees);
+              agrees = agrees_at_head new.2.number extra f g refl refl refl (ap (λ n. replicate n 0) count ∙ sym (replicate-append-replicate (length function.vars) (length moves) 0));
               size = length-replicate (length moves) 0;
               here = ap (λ o. slice_get (blocks_of o) 0) there' ∙ ap (slice_get function'.blocks) (sym applied.home_first) ∙ new.1;
               facts = λ x move is live.
@@ -305,7 +304,7 @@ module _ (m m' : Program) (plans : ℕ → Plan) (rules : IsWellFormed m) (are_m
             reached = subst (λ n. IsReached pair.function (Place f.block n)) at_end reached;
             ready = record {
               extra = ready.extra;
-              agrees = record { function = ready.agrees.function; arguments = ready.agrees.arguments; variables = ready.agrees.variables; within = λ k lt. absurd (omega (arith, lt)); registers = λ k lt. absurd (omega (arith, lt)) };
+              agrees = agrees_at_head (λ k. k) ready.extra (through f target) (through g (pair.applied.layout.split f.block slot)) refl ready.agrees.function ready.agrees.arguments ready.agrees.variables;
               size = ready.size;
               here = ap (λ i. block_at m' i (pair.applied.layout.split f.block slot)) ready.agrees.function ∙ ap (λ o. slice_get (blocks_of o) (pair.applied.layout.split f.block slot)) pair.there'
                   ∙ pair.applied.splits f.block slot target block in_block.block_there (record { leads = leads; many = many; inserted = q });
