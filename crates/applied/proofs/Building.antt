@@ -30,23 +30,23 @@ stands_middle front instrs' rest n e =
     subst (λ k. StandsAt (front ++ (instrs' ++ rest)) k instrs') at (stands_behind front (instrs' ++ rest) 0 instrs' (stands_first instrs' rest))
 
 module _ (naming : Naming) (moves : List Move) (vars b : ℕ) (block : Block) where
-  abbrev start : ℕ → ℕ
+  abbrev pub start : ℕ → ℕ
   start = start_of naming moves vars b block
 
-  abbrev number : ℕ → ℕ
+  abbrev pub number : ℕ → ℕ
   number = number_of naming moves vars b block
 
-  abbrev groups_at : ℕ → List Instr
+  abbrev pub groups_at : ℕ → List Instr
   groups_at k = groups_along naming (start k) vars (edges_before b k block) moves
 
-  abbrev copy_at : ℕ → Instr → List Instr
+  abbrev pub copy_at : ℕ → Instr → List Instr
   copy_at k instr = copied vars number (Place b k) instr moves ∷ stores vars (number k) b k moves
 
   -- what stands in the text from the place k on
-  record TextStands (text : List Instr) (k : ℕ) : Type 0 where
-    groups_stand : (j : ℕ) → k ≤ j → j ≤ length block.instrs → StandsAt text (start j) (groups_at j)
-    copies_stand : (j : ℕ) (instr : Instr) → k ≤ j → slice_get block.instrs j ≡ Some instr → StandsAt text (number j) (copy_at j instr)
-    ends : length text ≡ number (length block.instrs)
+  pub record TextStands (text : List Instr) (k : ℕ) : Type 0 where
+    pub groups_stand : (j : ℕ) → k ≤ j → j ≤ length block.instrs → StandsAt text (start j) (groups_at j)
+    pub copies_stand : (j : ℕ) (instr : Instr) → k ≤ j → slice_get block.instrs j ≡ Some instr → StandsAt text (number j) (copy_at j instr)
+    pub ends : length text ≡ number (length block.instrs)
 
   text_stands : (instrs' : List Instr) (k : ℕ) (front : List Instr) → length front ≡ start k → ((i : ℕ) → slice_get instrs' i ≡ slice_get block.instrs (k + i)) → k + length instrs' ≡ length block.instrs → TextStands (front ++ text_from naming moves vars b block k instrs') k
   text_stands [] k front at suffix count =
@@ -92,9 +92,12 @@ module _ (naming : Naming) (moves : List Move) (vars b : ℕ) (block : Block) wh
         ends = further.ends;
       }
 
+  pub new_text_stands : TextStands (text_from naming moves vars b block 0 block.instrs) 0
+  new_text_stands = text_stands block.instrs 0 [] refl (λ i. let e : i ≡ 0 + i = omega arith in ap (slice_get block.instrs) e) (omega arith)
+
   pub block_applied : (layout : Layout) → BlockApplied naming moves vars layout b block (new_block naming moves vars layout b block)
   block_applied layout =
-      let stands = text_stands block.instrs 0 [] refl (λ i. let e : i ≡ 0 + i = omega arith in ap (slice_get block.instrs) e) (omega arith) in
+      let stands = new_text_stands in
       record {
         name = refl;
         start = start;

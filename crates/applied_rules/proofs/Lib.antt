@@ -1,0 +1,4 @@
+pub mod Scopes
+pub mod Operands
+pub mod Groups
+pub mod Texts

@@ -1,0 +1,5 @@
+//! The module to which placements were applied keeps the rules of modules.
+#![tactic(auto)]
+
+/// Nothing yet.
+pub fn nothing_yet() {}
