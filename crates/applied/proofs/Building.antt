@@ -147,7 +147,7 @@ module _ (naming : Naming) (moves : List Move) (vars : ℕ) (layout : Layout) wh
   one_there b slot target true e e' = absurd cc
   one_there b slot target false e e' = ap (λ q. if q then split_block naming vars (Slot b slot) (layout.home target) moves ∷ [] else []) e'
 
-  before_more : (b : ℕ) (term : Terminator) (slot j : ℕ) → slot ≤ j → splits_before b slot term moves ≤ splits_before b j term moves
+  pub before_more : (b : ℕ) (term : Terminator) (slot j : ℕ) → slot ≤ j → splits_before b slot term moves ≤ splits_before b j term moves
   before_more b term slot zero le = let is : slot ≡ 0 = omega (arith, le) in omega (arith, ap (λ k. splits_before b k term moves) is)
   before_more b term slot (suc j) le = ⊎_elim
       (λ lt. omega (arith, before_more b term slot j (omega (arith, lt))))
@@ -197,7 +197,7 @@ module _ (naming : Naming) (moves : List Move) (vars : ℕ) (layout : Layout) wh
       let n : suc c + j ≡ c + suc j = omega arith in
       omega (arith, home_step xs (suc c) j, ap (λ k. block_count moves k (slice_get xs j)) n)
 
-  length_blocks : (blocks : List Block) (c : ℕ) → length (new_blocks naming moves vars layout c blocks) ≡ home_from moves c blocks (length blocks)
+  pub length_blocks : (blocks : List Block) (c : ℕ) → length (new_blocks naming moves vars layout c blocks) ≡ home_from moves c blocks (length blocks)
   length_blocks [] c = refl
   length_blocks (x ∷ xs) c =
       omega (arith, length_blocks xs (suc c), length-append (split_blocks naming moves vars layout c x.term) (new_blocks naming moves vars layout (suc c) xs), length_splits c x.term)

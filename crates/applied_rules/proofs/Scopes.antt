@@ -60,7 +60,7 @@ zip_by R R' by (a ∷ as') (b ∷ bs) all = (by a b all.0, zip_by R R' by as' bs
 zip_by R R' by [] (b ∷ bs) all = absurd all
 zip_by R R' by (a ∷ as') [] all = absurd all
 
-some_by : {A : Type 0} (P Q : A → Type 0) → ((a : A) → P a → Q a) → (o : Option A) → IsSomeAnd o P → IsSomeAnd o Q
+pub some_by : {A : Type 0} (P Q : A → Type 0) → ((a : A) → P a → Q a) → (o : Option A) → IsSomeAnd o P → IsSomeAnd o Q
 some_by P Q by None is = absurd is
 some_by P Q by (Some a) is = by a is
 
