@@ -6,3 +6,4 @@ pub mod Blocks
 pub mod Spelled
 pub mod Apart
 pub mod Tags
+pub mod Names

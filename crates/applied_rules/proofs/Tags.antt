@@ -147,7 +147,7 @@ module _ (naming : Naming) where
       ∙ ap (λ l. l ++ made naming (Sum move.number p) ∷ []) (load_results move.number p 0 move.expr.args)
       ∙ sym (map-append (made naming) mades (Sum move.number p ∷ []))
 
-  edge_results : (edge : Edge) (n temp : ℕ) (moves : List Move) → results (groups naming n temp edge moves) ≡ map (made naming) (edge_mades naming edge moves)
+  pub edge_results : (edge : Edge) (n temp : ℕ) (moves : List Move) → results (groups naming n temp edge moves) ≡ map (made naming) (edge_mades naming edge moves)
   edge_results edge n temp [] = refl
   edge_results edge n temp (move ∷ moves) = by (move.inserted edge) (λ k. edge_results edge k (suc temp) moves)
     where
@@ -160,7 +160,7 @@ module _ (naming : Naming) where
           ∙ sym (map-append (made naming) (group_mades naming edge move) (edge_mades naming edge moves))
       by false rest = rest (n + 0)
 
-  along_results : (edges : List Edge) (n temp : ℕ) (moves : List Move) → results (groups_along naming n temp edges moves) ≡ map (made naming) (along_mades naming edges moves)
+  pub along_results : (edges : List Edge) (n temp : ℕ) (moves : List Move) → results (groups_along naming n temp edges moves) ≡ map (made naming) (along_mades naming edges moves)
   along_results [] n temp moves = refl
   along_results (edge ∷ edges) n temp moves =
       let here = groups naming n temp edge moves in
