@@ -1,5 +1,5 @@
 -- What stands at each place of the module to which placements were applied.
-use Rattle.std.specs.Prelude.{◌≡◌, ◌≢◌, ◌⊎◌, ℕ, zero, suc, ◌+◌, ◌<◌, ◌≤◌, Bool, true, false, if◌then◌else◌, List, [], ◌∷◌, ◌++◌, Option, Some, None, All, AllPairs, length, map, slice_get}
+use Rattle.std.specs.Prelude.{◌≡◌, ◌≢◌, ◌⊎◌, ℕ, zero, suc, ◌+◌, ◌^◌, ◌<◌, ◌≤◌, Bool, true, false, if◌then◌else◌, List, [], ◌∷◌, ◌++◌, Option, Some, None, All, AllPairs, Contains, length, map, slice_get}
 use Rattle.mc_num.specs.Op.{result_width}
 use Rattle.mc_num.specs.declared.op.Width.{Width}
 use Rattle.ir_types.specs.Program.{Program}
@@ -265,8 +265,18 @@ AreMoves m plans =
 abbrev pub Moves : Move → Type 0
 Moves move = ((edge : Edge) × (move.inserted edge ≡ true)) ⊎ ((v : Point) × (move.deleted v ≡ true))
 
--- what is done to a function, in the order of its expressions, and with names that are new
+-- one of the expressions is inserted on the edge
+pub record IsInserted (moves : List Move) (edge : Edge) : Type 0 where
+  pub move : Move
+  pub among : Contains moves move
+  pub inserted : move.inserted edge ≡ true
+
+-- what is done to a function, in the order of its expressions, and with names that are new and can be told apart
 pub record IsPlan (function : Function) (plan : Plan) : Type 0 where
   pub prefix : IsFreshPrefix function plan.naming.prefix
   pub ascending : AllPairs (λ move next. move.number < next.number) plan.moves
   pub needed : All Moves plan.moves
+  pub numbers : All (λ move. move.number < 2 ^ 32) plan.moves
+  pub edge_numbers : (edge : Edge) → IsInserted plan.moves edge → plan.naming.edge_number edge < 2 ^ 32
+  pub edges_differ : (edge other : Edge) → IsInserted plan.moves edge → IsInserted plan.moves other
+      → plan.naming.edge_number edge ≡ plan.naming.edge_number other → edge ≡ other

@@ -7,3 +7,4 @@ pub mod Spelled
 pub mod Apart
 pub mod Tags
 pub mod Names
+pub mod MadeNames
