@@ -8,3 +8,4 @@ pub mod Apart
 pub mod Tags
 pub mod Names
 pub mod MadeNames
+pub mod Regions

@@ -21,26 +21,26 @@ expr_number (Sum x p) = x
 expr_number (Operand x p i) = x
 expr_number (Split p) = 0
 
-abbrev edge_in : Made → ℕ
+abbrev pub edge_in : Made → ℕ
 edge_in (Temp x) = 0
 edge_in (Sum x p) = p
 edge_in (Operand x p i) = p
 edge_in (Split p) = p
 
 -- the name is of the edge of this number
-abbrev IsNumbered : ℕ → Made → Type 0
+abbrev pub IsNumbered : ℕ → Made → Type 0
 IsNumbered n (Temp x) = ⊥
 IsNumbered n (Sum x p) = (p ≡ n) × (x < 2 ^ 64)
 IsNumbered n (Operand x p i) = (p ≡ n) × (x < 2 ^ 64) × (i < 2 ^ 64)
 IsNumbered n (Split p) = p ≡ n
 
-edge_in_is : (n : ℕ) (made : Made) → IsNumbered n made → edge_in made ≡ n
+pub edge_in_is : (n : ℕ) (made : Made) → IsNumbered n made → edge_in made ≡ n
 edge_in_is n (Temp x) is = absurd is
 edge_in_is n (Sum x p) is = is.0
 edge_in_is n (Operand x p i) is = is.0
 edge_in_is n (Split p) is = is
 
-numbered_fits : (n : ℕ) (made : Made) → n < 2 ^ 64 → IsNumbered n made → FitsMade made
+pub numbered_fits : (n : ℕ) (made : Made) → n < 2 ^ 64 → IsNumbered n made → FitsMade made
 numbered_fits n (Temp x) lt is = absurd is
 numbered_fits n (Sum x p) lt is = (is.1, omega (arith, is.0, lt))
 numbered_fits n (Operand x p i) lt is = (is.1, omega (arith, is.0, lt), is.2)
@@ -61,7 +61,7 @@ IsSum (Temp x) = ⊥
 IsSum (Operand x p k) = ⊥
 IsSum (Split p) = ⊥
 
-abbrev IsSplit : Made → Type 0
+abbrev pub IsSplit : Made → Type 0
 IsSplit (Split p) = Unit {0}
 IsSplit (Sum x p) = ⊥
 IsSplit (Temp x) = ⊥
@@ -114,7 +114,7 @@ args_number x p i (ConstArg c ∷ args) = args_number x p (suc i) args
 args_number x p i (ParamArg q ∷ args) = args_number x p (suc i) args
 args_number x p i (VarArg v ∷ args) = (refl, args_number x p (suc i) args)
 
-abbrev NoSplit : Made → Type 0
+abbrev pub NoSplit : Made → Type 0
 NoSplit made = ¬ IsSplit made
 
 from_no_split : (made : Made) → FromOperand 0 made → NoSplit made
@@ -123,7 +123,7 @@ from_no_split (Temp x) from = λ o. o
 from_no_split (Sum x p) from = λ o. o
 from_no_split (Split p) from = absurd from
 
-split_differs : (p : ℕ) (made : Made) → NoSplit made → Split p ≢ made
+pub split_differs : (p : ℕ) (made : Made) → NoSplit made → Split p ≢ made
 split_differs p (Split q) none e = none tt
 split_differs p (Temp y) none e = cc
 split_differs p (Sum y q) none e = cc
@@ -144,7 +144,7 @@ module _ (naming : Naming) (edge : Edge) where
       let x = move.number in
       each_append (λ made. expr_number made ≡ x) (arg_mades x edge_no 0 move.expr.args) (Sum x edge_no ∷ []) (args_number x edge_no 0 move.expr.args) (refl, tt)
 
-  group_numbered : (move : Move) → move.number < 2 ^ 64 → length move.expr.args < 2 ^ 64 → Each (IsNumbered edge_no) (group_mades naming edge move)
+  pub group_numbered : (move : Move) → move.number < 2 ^ 64 → length move.expr.args < 2 ^ 64 → Each (IsNumbered edge_no) (group_mades naming edge move)
   group_numbered move lt few =
       let x = move.number in
       each_append (IsNumbered edge_no) (arg_mades x edge_no 0 move.expr.args) (Sum x edge_no ∷ [])
@@ -161,7 +161,7 @@ module _ (naming : Naming) (edge : Edge) where
   abbrev if_inserted : Bool → Move → List Made
   if_inserted q move = if q then group_mades naming edge move else []
 
-  edge_each : (P : Made → Type 0) (moves : List Move) → Each (λ move. move.inserted edge ≡ true → Each P (group_mades naming edge move)) moves → Each P (edge_mades naming edge moves)
+  pub edge_each : (P : Made → Type 0) (moves : List Move) → Each (λ move. move.inserted edge ≡ true → Each P (group_mades naming edge move)) moves → Each P (edge_mades naming edge moves)
   edge_each P [] each = tt
   edge_each P (move ∷ moves) each = by (move.inserted edge) refl (edge_each P moves each.1)
     where
@@ -178,7 +178,7 @@ module _ (naming : Naming) (edge : Edge) where
       (each_by (λ next. n < next.number) (λ move. move.inserted edge ≡ true → Each (λ made. n < expr_number made) (group_mades naming edge move))
       (λ move lt is. each_by (λ made. expr_number made ≡ move.number) (λ made. n < expr_number made) (λ made e. omega (arith, lt, e)) (group_mades naming edge move) (group_number move)) moves each)
 
-  edge_apart : (moves : List Move) → EachPair (λ move next. move.number < next.number) moves → Apart (edge_mades naming edge moves)
+  pub edge_apart : (moves : List Move) → EachPair (λ move next. move.number < next.number) moves → Apart (edge_mades naming edge moves)
   edge_apart [] ascending = tt
   edge_apart (move ∷ moves) ascending = by (move.inserted edge) (edge_apart moves ascending.1)
     where
@@ -192,5 +192,5 @@ module _ (naming : Naming) (edge : Edge) where
   all_moves P by [] = tt
   all_moves P by (move ∷ moves) = (by move, all_moves P by moves)
 
-  edge_no_split : (moves : List Move) → Each NoSplit (edge_mades naming edge moves)
+  pub edge_no_split : (moves : List Move) → Each NoSplit (edge_mades naming edge moves)
   edge_no_split moves = edge_each NoSplit moves (all_moves (λ move. move.inserted edge ≡ true → Each NoSplit (group_mades naming edge move)) (λ move is. group_no_split move) moves)
