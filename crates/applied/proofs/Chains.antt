@@ -40,7 +40,7 @@ module _ (m : Program) (function : Function) (fits : FunctionFits function) wher
   abbrev pub ExprFits : Expr → Type 0
   ExprFits e = ArgsWithin (length function.vars) e.args × (length e.args ≡ length (argument_widths e.op))
 
-  expr_fits : (e : Expr) (v : Point) → Occurs m function e v → ExprFits e
+  pub expr_fits : (e : Expr) (v : Point) → Occurs m function e v → ExprFits e
   expr_fits e Start occurs = absurd occurs
   expr_fits e (Head b) occurs = absurd occurs
   expr_fits e (Place b k) occurs =

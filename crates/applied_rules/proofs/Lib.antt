@@ -9,3 +9,4 @@ pub mod Tags
 pub mod Names
 pub mod MadeNames
 pub mod Regions
+pub mod Rules
