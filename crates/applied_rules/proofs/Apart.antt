@@ -1,6 +1,6 @@
 -- Lists whose items differ, told from item to item.
-use Rattle.std.proofs.Common.{◌≡◌, ◌≢◌, ℕ, zero, suc, ◌+◌, ◌<◌, List, [], ◌∷◌, ◌++◌, length, map, refl, sym, ap, ◌∙◌, subst, arith}
-use Rattle.std.specs.Prelude.{All, AllPairs, slice_index_or}
+use Rattle.std.proofs.Common.{◌≢◌, zero, suc, List, [], ◌∷◌, ◌++◌, arith}
+use Rattle.std.specs.Prelude.{All, AllPairs}
 
 -- P holds of each item
 abbrev pub Each : {A : Type 0} → (A → Type 0) → List A → Type 0

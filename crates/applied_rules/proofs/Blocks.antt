@@ -1,6 +1,6 @@
 -- Each new block keeps the rules of blocks.
-use Rattle.std.proofs.Common.{◌≡◌, ◌≢◌, ℕ, zero, suc, ◌+◌, ◌<◌, ◌≤◌, ◌^◌, Bool, true, false, if◌then◌else◌, List, [], ◌∷◌, ◌++◌, length, map, Option, Some, None, refl, sym, ap, ◌∙◌, subst, arith, ⊎_elim, length-append}
-use Rattle.std.specs.Prelude.{slice_get, slice_index_or, All, AllPairs, IsSomeAnd}
+use Rattle.std.proofs.Common.{◌≡◌, ℕ, zero, suc, ◌+◌, ◌<◌, ◌≤◌, ◌^◌, Bool, true, false, if◌then◌else◌, List, [], ◌∷◌, ◌++◌, length, map, Some, None, refl, sym, ap, ◌∙◌, subst, arith, ⊎_elim}
+use Rattle.std.specs.Prelude.{slice_get, slice_index_or, All, IsSomeAnd}
 use Rattle.std.proofs.lemmas.Bool.{cases_lt}
 use Rattle.std.proofs.lemmas.Option.{slice_get_within}
 use Rattle.mc_num.specs.Op.{bits, result_width}
@@ -19,9 +19,9 @@ use Rattle.applied.specs.Renamed.{renamed}
 use Rattle.applied.specs.Motion.{Slot, slot_target, Move, IsMove}
 use Rattle.applied.specs.Applied.{Naming, groups, has_groups, Layout, new_target, new_cases, new_term, is_single, splits_before, splits_at, block_count, split_block}
 use Rattle.applied.specs.Built.{new_block, split_one, splits_from, split_blocks, new_blocks, home_from, layout_of}
-use Rattle.applied.proofs.Fitting.{FunctionFits, function_fits}
+use Rattle.applied.proofs.Fitting.{function_fits}
 use Rattle.applied.proofs.Steps.{stands_whole}
-use Rattle.applied.proofs.Building.{home_step, length_blocks, before_more}
+use Rattle.applied.proofs.Building.{home_step, before_more}
 use Rattle.applied_rules.proofs.Scopes.{Extends, some_by, at_end, before_end, fits_before, has_more}
 use Rattle.applied_rules.proofs.Operands.{block_in}
 use Rattle.applied_rules.proofs.Groups.{GoodAt, GoodFrom, groups_good}

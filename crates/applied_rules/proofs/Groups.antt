@@ -1,17 +1,17 @@
 -- Groups and stores fit where they stand, and are named as they ought to be.
-use Rattle.std.proofs.Common.{◌≡◌, ℕ, zero, suc, ◌+◌, ◌<◌, ◌≤◌, ◌↔◌, Bool, true, false, if◌then◌else◌, List, [], ◌∷◌, ◌++◌, length, Option, Some, None, refl, sym, ap, ◌∙◌, subst, arith, length-append}
+use Rattle.std.proofs.Common.{◌≡◌, ℕ, suc, ◌+◌, ◌<◌, ◌≤◌, Bool, true, false, if◌then◌else◌, List, [], ◌∷◌, ◌++◌, length, Option, Some, refl, sym, ap, ◌∙◌, subst, arith}
 use Rattle.std.specs.Prelude.{slice_get, IsSome, is_some, IsSomeAnd, option_and_then}
 use Rattle.std.specs.List.{AllZip}
 use Rattle.mc_num.specs.Op.{argument_widths, result_width}
 use Rattle.mc_num.specs.declared.op.Width.{Width}
 use Rattle.ir_types.specs.WellFormed.{Scope, variable_width, given_by, IsNamed}
-use Rattle.ir_types.specs.declared.name.Made.TheVariants.{Sum, Operand}
+use Rattle.ir_types.specs.declared.name.Made.TheVariants.{Sum}
 use Rattle.ir_types.specs.declared.syntax.Operand.TheVariants.{Reg}
 use Rattle.ir_types.specs.declared.syntax.Variable.TheVariants.{Local}
-use Rattle.ir_types.specs.declared.syntax.Kind.TheVariants.{Load, Store, Compute}
+use Rattle.ir_types.specs.declared.syntax.Kind.TheVariants.{Compute}
 use Rattle.ir_types.specs.declared.syntax.Instr.{Instr}
 use Rattle.applied.specs.Motion.{Edge, Arg, ConstArg, ParamArg, VarArg, Move}
-use Rattle.applied.specs.Applied.{Naming, made, StandsAt, arg_loads, load_count, arg_operands, store_to, group, groups, groups_along, is_stored, stores}
+use Rattle.applied.specs.Applied.{Naming, made, StandsAt, arg_loads, arg_operands, store_to, group, groups, groups_along, is_stored, stores}
 use Rattle.applied.proofs.Steps.{stands_both}
 use Rattle.applied_rules.proofs.Scopes.{given_at, HasAt, FitsAt}
 use Rattle.applied_rules.proofs.Operands.{ArgFits, ExprFits}
@@ -70,9 +70,10 @@ module _ (s : Scope) (text : List Instr) where
       let n1 = n + length loads in
       let operation : Instr = record { result = Some (made naming (Sum move.number p)); kind = Compute e.op (arg_operands n e.args) } in
       let both = stands_both text n loads (operation ∷ store_to n1 temp ∷ []) stands in
-      good_append s text n loads (operation ∷ store_to n1 temp ∷ []) (loads_good naming move.number p 0 e.args (argument_widths e.op) n fits.1)
-      (((fits.0, operands_have naming move.number p 0 e.args (argument_widths e.op) n n1 fits.1 both.0 (omega arith)), (λ e. refl, λ e. refl)),
-      (store_good (suc n1) n1 temp (result_width e.op) (omega arith) (ap (option_and_then (λ i. given_by s i.kind)) both.1.0) width, tt))
+      good_append s text n loads (operation ∷ store_to n1 temp ∷ []) (loads_good naming move.number p 0 e.args (argument_widths e.op) n fits.1) (
+        ((fits.0, operands_have naming move.number p 0 e.args (argument_widths e.op) n n1 fits.1 both.0 (omega arith)), (λ e. refl, λ e. refl)),
+        (store_good (suc n1) n1 temp (result_width e.op) (omega arith) (ap (option_and_then (λ i. given_by s i.kind)) both.1.0) width, tt),
+      )
 
   module _ (vars : ℕ) (naming : Naming) (moves : List Move) (fit : (x : ℕ) (move : Move) → slice_get moves x ≡ Some move → ExprFits s move.expr) (temps : (x : ℕ) (move : Move) → slice_get moves x ≡ Some move → variable_width s (Local (vars + x)) ≡ Some (result_width move.expr.op)) where
     abbrev GroupsGood : Edge → List Move → ℕ → Type 0

@@ -1,18 +1,12 @@
 -- The made names of a new function differ.
-use Rattle.std.proofs.Common.{◌≡◌, ◌≢◌, ℕ, zero, suc, ◌+◌, ◌^◌, ◌<◌, ◌≤◌, Bool, true, false, if◌then◌else◌, List, [], ◌∷◌, ◌++◌, length, map, Option, Some, None, refl, sym, ap, ◌∙◌, subst, arith}
-use Rattle.std.specs.Prelude.{slice_get}
-use Rattle.ir_types.specs.WellFormed.{targets}
+use Rattle.std.proofs.Common.{◌≡◌, ◌≢◌, ℕ, suc, ◌+◌, ◌^◌, ◌<◌, ◌≤◌, Bool, true, false, if◌then◌else◌, List, [], ◌∷◌, ◌++◌, length, refl, ap, arith}
 use Rattle.ir_types.specs.declared.name.Made.{Made}
 use Rattle.ir_types.specs.declared.name.Made.TheVariants.{Temp, Sum, Operand, Split}
-use Rattle.ir_types.specs.declared.syntax.Instr.{Instr}
-use Rattle.ir_types.specs.declared.syntax.Terminator.{Terminator}
-use Rattle.ir_types.specs.declared.syntax.Block.{Block}
-use Rattle.applied.specs.Motion.{Edge, Entry, Inside, Slot, Arg, ConstArg, ParamArg, VarArg, Move}
-use Rattle.applied.specs.Applied.{Naming, entering, leaving, edges_before, is_single, has_groups}
+use Rattle.applied.specs.Motion.{Edge, Arg, ConstArg, ParamArg, VarArg, Move}
+use Rattle.applied.specs.Applied.{Naming}
 use Rattle.applied_rules.proofs.Apart.{Each, EachPair, Apart, each_by, each_append, apart_append}
 use Rattle.applied_rules.proofs.Spelled.{FitsMade}
-use Rattle.applied_rules.proofs.Tags.{arg_mades, group_mades, edge_mades, along_mades}
-use Rattle.applied_rules.proofs.Names.{text_mades, one_split_mades, split_mades, block_mades, blocks_mades, temps}
+use Rattle.applied_rules.proofs.Tags.{arg_mades, group_mades, edge_mades}
 
 -- the number of an expression in a name
 abbrev expr_number : Made → ℕ

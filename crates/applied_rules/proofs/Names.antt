@@ -1,6 +1,6 @@
 -- The names of the new blocks and of the new function, tagged.
-use Rattle.std.proofs.Common.{◌≡◌, ℕ, zero, suc, ◌+◌, Bool, true, false, if◌then◌else◌, List, [], ◌∷◌, ◌++◌, length, map, Option, Some, None, refl, sym, ap, ◌∙◌, subst, append_assoc}
-use Rattle.std.specs.Prelude.{filter_map, flat_map}
+use Rattle.std.proofs.Common.{◌≡◌, ℕ, suc, Bool, true, false, if◌then◌else◌, List, [], ◌∷◌, ◌++◌, length, map, Option, Some, None, refl, sym, ap, ◌∙◌, append_assoc}
+use Rattle.std.specs.Prelude.{filter_map}
 use Rattle.std.specs.List.{cons_option}
 use Rattle.std.proofs.lemmas.List.{map-append, append-nil}
 use Rattle.std.proofs.lemmas.List.Concat.{flat_map-append}
@@ -13,11 +13,11 @@ use Rattle.ir_types.specs.declared.name.Name.{Name}
 use Rattle.ir_types.specs.declared.syntax.Instr.{Instr}
 use Rattle.ir_types.specs.declared.syntax.Block.{Block}
 use Rattle.ir_types.specs.declared.syntax.Function.{Function}
-use Rattle.applied.specs.Motion.{Place, Edge, Slot, Move}
-use Rattle.applied.specs.Applied.{Naming, Plan, made, groups_along, edges_before, copied, store_to, is_stored, stores, has_groups, Layout, is_single, split_block, temporaries}
-use Rattle.applied.specs.Built.{text_from, start_of, number_of, new_block, split_one, splits_from, split_blocks, new_blocks, layout_of, applied_function}
+use Rattle.applied.specs.Motion.{Place, Slot, Move}
+use Rattle.applied.specs.Applied.{Naming, made, groups_along, edges_before, copied, store_to, is_stored, stores, has_groups, Layout, is_single, split_block, temporaries}
+use Rattle.applied.specs.Built.{text_from, start_of, number_of, split_one, splits_from, split_blocks, new_blocks, layout_of}
 use Rattle.applied_rules.proofs.Texts.{copied_result}
-use Rattle.applied_rules.proofs.Tags.{Tag, Old, New, untagged, olds, news, olds_append, news_append, all_old, all_new, olds_old, news_old, olds_new, news_new, untagged_old, edge_mades, along_mades, edge_results, along_results}
+use Rattle.applied_rules.proofs.Tags.{Tag, Old, untagged, olds, news, olds_append, news_append, all_old, all_new, olds_old, news_old, olds_new, news_new, untagged_old, edge_mades, along_mades, edge_results, along_results}
 
 abbrev pub old_result : Option Name → List Tag
 old_result None = []

@@ -1,20 +1,19 @@
 -- The operands of an expression that occurs have the widths of its operation.
-use Rattle.std.proofs.Common.{◌≡◌, ℕ, ◌<◌, ◌^◌, List, [], ◌∷◌, Option, Some, None, refl, sym, ap, ◌∙◌, subst}
+use Rattle.std.proofs.Common.{◌≡◌, ℕ, ◌<◌, ◌^◌, List, [], ◌∷◌, Some, sym, ap, ◌∙◌, subst}
 use Rattle.std.specs.Prelude.{slice_get, option_and_then}
 use Rattle.std.specs.List.{AllZip}
 use Rattle.mc_num.specs.Op.{bits, argument_widths, IsWellFormedOp}
 use Rattle.mc_num.specs.declared.op.Width.{Width}
 use Rattle.ir_types.specs.Program.{Program}
-use Rattle.ir_types.specs.WellFormed.{Scope, scope, variable_width, given_by, Fits, IsBlockIn, IsFunctionIn, IsWellFormed}
+use Rattle.ir_types.specs.WellFormed.{Scope, scope, variable_width, given_by, IsBlockIn, IsFunctionIn, IsWellFormed}
 use Rattle.ir_types.specs.declared.syntax.Operand.{Operand}
 use Rattle.ir_types.specs.declared.syntax.Operand.TheVariants.{Const, Param, Reg}
-use Rattle.ir_types.specs.declared.syntax.Kind.TheVariants.{Compute}
 use Rattle.ir_types.specs.declared.syntax.Instr.{Instr}
 use Rattle.ir_types.specs.declared.syntax.Block.{Block}
 use Rattle.ir_types.specs.declared.syntax.Function.{Function}
-use Rattle.applied.specs.Motion.{Point, Start, Head, Place, Arg, ConstArg, ParamArg, VarArg, Expr, IsArg, OccursIn, Occurs}
+use Rattle.applied.specs.Motion.{Point, Start, Head, Place, Arg, ConstArg, ParamArg, VarArg, Expr, IsArg, Occurs}
 use Rattle.applied.proofs.Fitting.{all_at}
-use Rattle.applied_rules.proofs.Scopes.{HasAt, given_at, FitsAt, at_place, Extends, width_more}
+use Rattle.applied_rules.proofs.Scopes.{HasAt, FitsAt, at_place, Extends, width_more}
 
 abbrev pub ArgFits : Scope → Width → Arg → Type 0
 ArgFits s w (ConstArg value) = value < 2 ^ bits w

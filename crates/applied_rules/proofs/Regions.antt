@@ -1,6 +1,6 @@
 -- What is made in different parts of a function has different names.
 use Rattle.std.proofs.Common.{◌≡◌, ◌≢◌, ℕ, zero, suc, ◌+◌, ◌^◌, ◌<◌, ◌≤◌, Bool, true, false, if◌then◌else◌, List, [], ◌∷◌, ◌++◌, length, map, Option, Some, None, refl, sym, ap, ◌∙◌, subst, arith}
-use Rattle.std.specs.Prelude.{slice_get, slice_index_or, Contains}
+use Rattle.std.specs.Prelude.{slice_get, Contains}
 use Rattle.ir_types.specs.WellFormed.{targets}
 use Rattle.ir_types.specs.declared.name.Made.{Made}
 use Rattle.ir_types.specs.declared.name.Made.TheVariants.{Temp, Sum, Operand, Split}

@@ -1,5 +1,5 @@
 -- The applied module keeps the rules of modules.
-use Rattle.std.proofs.Common.{◌≡◌, ◌≢◌, ◌⊎◌, ℕ, zero, suc, ◌+◌, ◌^◌, ◌<◌, ◌≤◌, List, [], ◌∷◌, ◌++◌, length, map, Option, Some, None, refl, sym, ap, ◌∙◌, subst, arith}
+use Rattle.std.proofs.Common.{◌≡◌, ◌≢◌, ◌⊎◌, ℕ, zero, suc, ◌+◌, ◌^◌, ◌<◌, ◌≤◌, List, [], ◌∷◌, ◌++◌, length, map, Some, None, refl, sym, ap, ◌∙◌, subst, arith}
 use Rattle.std.specs.Prelude.{slice_get, All, AllPairs}
 use Rattle.std.proofs.lemmas.List.{append-nil, map-append}
 use Rattle.mc_num.specs.Op.{argument_widths, result_width}
@@ -8,9 +8,8 @@ use Rattle.mc_num.specs.declared.op.Op.TheVariants.{Bin, Icmp, Cast, Select}
 use Rattle.mc_num.specs.declared.op.Width.{Width}
 use Rattle.ir_types.specs.Program.{Program}
 use Rattle.ir_types.specs.Names.{spelled, IsSpellable}
-use Rattle.ir_types.specs.WellFormed.{Scope, scope, signature, widths, names, variable_width, CountFrom, getchar, putchar, item_limit, IsFunctionIn, IsWellFormed}
+use Rattle.ir_types.specs.WellFormed.{scope, signature, widths, names, CountFrom, getchar, putchar, item_limit, IsFunctionIn, IsWellFormed}
 use Rattle.ir_types.specs.declared.name.Name.{Name}
-use Rattle.ir_types.specs.declared.syntax.Variable.TheVariants.{Local}
 use Rattle.ir_types.specs.declared.syntax.Block.{Block}
 use Rattle.ir_types.specs.declared.syntax.Function.{Function}
 use Rattle.applied.specs.Motion.{Point, Start, Head, Place, Expr, Occurs, Move, IsMove}

@@ -1,12 +1,10 @@
 -- What fits in a text, told by the places of the whole text, and where a function has more variables.
-use Rattle.std.proofs.Common.{◌≡◌, ℕ, zero, suc, ◌+◌, ◌<◌, ◌≤◌, ◌^◌, ◌↔◌, List, [], ◌∷◌, ◌++◌, length, map, take, Option, Some, None, true, false, refl, sym, ap, ◌∙◌, subst, arith, length-append}
+use Rattle.std.proofs.Common.{◌≡◌, ℕ, zero, suc, ◌<◌, ◌^◌, List, [], ◌∷◌, ◌++◌, length, map, take, Option, Some, None, refl, sym, ap, ◌∙◌, subst, arith}
 use Rattle.std.specs.Prelude.{slice_get, IsSome, is_some, IsSomeAnd, option_and_then}
 use Rattle.std.specs.List.{AllZip}
-use Rattle.std.proofs.lemmas.Option.{slice_get_within}
 use Rattle.mc_num.specs.Op.{bits, argument_widths, IsWellFormedOp}
 use Rattle.mc_num.specs.declared.op.Width.{Width}
-use Rattle.mc_num.specs.declared.op.Width.TheVariants.{I1}
-use Rattle.ir_types.specs.WellFormed.{Scope, Signature, variable_width, given_by, HasWidth, Fits, AreCases, Ends, IsNamed}
+use Rattle.ir_types.specs.WellFormed.{Scope, variable_width, given_by, HasWidth, Fits}
 use Rattle.ir_types.specs.declared.syntax.Operand.{Operand}
 use Rattle.ir_types.specs.declared.syntax.Operand.TheVariants.{Const, Param, Reg}
 use Rattle.ir_types.specs.declared.syntax.Variable.{Variable}

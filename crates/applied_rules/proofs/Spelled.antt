@@ -1,6 +1,5 @@
 -- Made names of one prefix are spelled differently.
-use Rattle.std.proofs.Common.{◌≡◌, ℕ, zero, suc, ◌<◌, ◌^◌, Bool, true, false, ◌&&◌, List, [], ◌∷◌, ◌++◌, refl, sym, ap, ◌∙◌, subst, append_assoc, arith}
-use Rattle.std.specs.Prelude.{codes}
+use Rattle.std.proofs.Common.{◌≡◌, ℕ, ◌<◌, ◌^◌, Bool, true, false, ◌&&◌, List, [], ◌∷◌, ◌++◌, refl, sym, ap, ◌∙◌, append_assoc, arith}
 use Rattle.std.specs.List.{list_all}
 use Rattle.std.specs.Fmt.{decimal}
 use Rattle.std.specs.Str.Parse.{digits_value}
@@ -10,8 +9,7 @@ use Rattle.ir_types.specs.Bytes.{is_digit}
 use Rattle.ir_types.specs.Names.{prefix, parts, spelled}
 use Rattle.ir_types.specs.declared.name.Made.{Made}
 use Rattle.ir_types.specs.declared.name.Made.TheVariants.{Temp, Sum, Operand, Split}
-use Rattle.ir_types.specs.declared.name.Name.{Name}
-use Rattle.ir_types.specs.declared.name.Name.TheVariants.{Text, Made as MadeName}
+use Rattle.ir_types.specs.declared.name.Name.TheVariants.{Made as MadeName}
 use Rattle.ir_types.proofs.Decimals.{decimal_digits}
 
 -- its numbers are written in full

@@ -1,23 +1,19 @@
 -- The names of a new function: the old ones in their order, and made ones between them.
-use Rattle.std.proofs.Common.{◌≡◌, ◌≢◌, ℕ, zero, suc, ◌+◌, Bool, true, false, if◌then◌else◌, List, [], ◌∷◌, ◌++◌, length, map, Option, Some, None, refl, sym, ap, ◌∙◌, subst, arith, append_assoc}
-use Rattle.std.specs.Prelude.{filter_map, flat_map, All}
+use Rattle.std.proofs.Common.{◌≡◌, ◌≢◌, ℕ, suc, ◌+◌, Bool, true, false, if◌then◌else◌, List, [], ◌∷◌, ◌++◌, length, map, refl, sym, ap, ◌∙◌}
+use Rattle.std.specs.Prelude.{filter_map}
 use Rattle.std.proofs.lemmas.List.{map-append}
-use Rattle.std.proofs.lemmas.List.Concat.{flat_map-append}
 use Rattle.std.proofs.lemmas.List.Elements.{filter_map-append}
 use Rattle.ir_types.specs.Names.{prefix, spelled, IsSpellable}
-use Rattle.ir_types.specs.WellFormed.{targets, result_names, block_names, CountFrom}
+use Rattle.ir_types.specs.WellFormed.{CountFrom}
 use Rattle.ir_types.specs.declared.name.Made.{Made}
-use Rattle.ir_types.specs.declared.name.Made.TheVariants.{Temp, Sum, Operand, Split}
+use Rattle.ir_types.specs.declared.name.Made.TheVariants.{Sum, Operand}
 use Rattle.ir_types.specs.declared.name.Name.{Name}
 use Rattle.ir_types.specs.declared.name.Name.TheVariants.{Text, Number, Made as MadeName}
 use Rattle.ir_types.specs.declared.syntax.Instr.{Instr}
-use Rattle.ir_types.specs.declared.syntax.Block.{Block}
-use Rattle.applied.specs.Motion.{Place, Edge, Slot, Arg, ConstArg, ParamArg, VarArg, Move}
-use Rattle.applied.specs.Applied.{Naming, made, arg_loads, group, groups, groups_along, edges_before, copied, store_to, is_stored, stores, has_groups, Layout, is_single, split_block}
-use Rattle.applied.specs.Built.{text_from, start_of, number_of, new_block, split_one, splits_from, split_blocks, new_blocks}
-use Rattle.applied_rules.proofs.Apart.{Each, Apart, each_by}
+use Rattle.applied.specs.Motion.{Edge, Arg, ConstArg, ParamArg, VarArg, Move}
+use Rattle.applied.specs.Applied.{Naming, made, arg_loads, group, groups, groups_along}
+use Rattle.applied_rules.proofs.Apart.{Each, Apart}
 use Rattle.applied_rules.proofs.Spelled.{FitsMade, same_made}
-use Rattle.applied_rules.proofs.Texts.{copied_result}
 
 -- a name of the old function, or a made one
 pub data Tag : Type 0 where

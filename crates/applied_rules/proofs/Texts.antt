@@ -1,6 +1,6 @@
 -- The instructions of a new block fit and are named.
-use Rattle.std.proofs.Common.{◌≡◌, ℕ, zero, suc, ◌+◌, ◌<◌, ◌≤◌, ◌↔◌, Bool, true, false, List, [], ◌∷◌, ◌++◌, length, Option, Some, None, refl, sym, ap, ◌∙◌, subst, arith, ⊎_elim, length-append}
-use Rattle.std.specs.Prelude.{slice_get, IsSome, is_some, option_and_then, if◌then◌else◌}
+use Rattle.std.proofs.Common.{◌≡◌, ℕ, zero, suc, ◌+◌, ◌<◌, Bool, true, false, List, [], ◌∷◌, ◌++◌, length, Option, Some, None, refl, sym, ap, ◌∙◌, subst, arith, ⊎_elim}
+use Rattle.std.specs.Prelude.{slice_get, is_some, option_and_then, if◌then◌else◌}
 use Rattle.std.proofs.lemmas.Bool.{cases_lt}
 use Rattle.mc_num.specs.Op.{result_width}
 use Rattle.mc_num.specs.declared.op.Width.{Width}
@@ -12,9 +12,8 @@ use Rattle.ir_types.specs.declared.syntax.Kind.TheVariants.{Load, Compute}
 use Rattle.ir_types.specs.declared.syntax.Instr.{Instr}
 use Rattle.ir_types.specs.declared.syntax.Block.{Block}
 use Rattle.ir_types.specs.declared.syntax.Function.{Function}
-use Rattle.applied.specs.Renamed.{renamed_kind}
 use Rattle.applied.specs.Motion.{Point, Place, Inside, Expr, OccursIn, Move, IsMove}
-use Rattle.applied.specs.Applied.{Naming, edges_before, copied, is_stored, stores}
+use Rattle.applied.specs.Applied.{Naming, edges_before, copied, is_stored}
 use Rattle.applied.specs.Built.{text_from, start_of, number_of}
 use Rattle.applied.proofs.Fitting.{all_at}
 use Rattle.applied.proofs.Pairs.{Copied, AsItWas, IsDeleted, copied_is}
