@@ -1,5 +1,5 @@
 -- Each number of a run fits its width.
-use Rattle.std.specs.Prelude.{◌≡◌, ◌<◌, ◌^◌, ◌-◌, ℕ, List, [], ◌∷◌, Option, Some, None, Bool, map, length, slice_get, slice_index, option_and_then}
+use Rattle.std.specs.Prelude.{◌≡◌, ◌<◌, ◌^◌, ℕ, List, [], ◌∷◌, Option, Some, map, length, slice_get, slice_index, option_and_then}
 use Rattle.mc_num.specs.Op.{bits, argument_widths, IsWellFormedOp}
 use Rattle.mc_num.specs.Value.{HaveWidths}
 use Rattle.mc_num.specs.declared.op.Width.{Width}

@@ -1,5 +1,5 @@
 -- How often a run entered each function and took each slot.
-use Rattle.std.specs.Prelude.{ℕ, ◌≡◌, ◌+◌, ◌==◌, ◌&&◌, Bool, false, Option, List, [], if◌then◌else◌, length, map, filter, flat_map, count_by}
+use Rattle.std.specs.Prelude.{ℕ, ◌≡◌, ◌+◌, ◌==◌, ◌&&◌, Bool, false, Option, List, [], if◌then◌else◌, map, filter, flat_map, count_by}
 use Rattle.std.specs.List.{enumerate_from, range_with_len}
 use Rattle.ir_types.specs.Program.{Program}
 use Rattle.ir_types.specs.Limits.{slot_count}

@@ -6,6 +6,8 @@ mod ends;
 pub mod frame;
 pub mod machine;
 mod step;
+#[cfg(test)]
+mod tests;
 pub mod values;
 
 pub use machine::Machine;
