@@ -12,3 +12,4 @@ pub mod Applying
 pub mod OneTrap
 pub mod Building
 pub mod Pinning
+mod Example
