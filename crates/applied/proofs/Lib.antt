@@ -13,3 +13,4 @@ pub mod OneTrap
 pub mod Building
 pub mod Pinning
 mod Example
+pub mod WithinBlocks

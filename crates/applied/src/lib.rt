@@ -6,7 +6,8 @@ ghost use Rattle.ir_types.specs.Program.{Program};
 ghost use Rattle.ir_types.specs.WellFormed.{IsWellFormed};
 ghost use Rattle.ir_machine.specs.Same.{Same};
 ghost use Rattle.ir_types.specs.declared.syntax.Function.{Function};
-ghost use Rattle.applied.specs.Motion.{Expr, Point, expr_traps, IsInevitable};
+ghost use Rattle.applied.specs.Motion.{Expr, Point, Move, IsMove, expr_traps, IsInevitable};
+ghost use Rattle.applied.specs.InBlocks.{IsBlockMove};
 ghost use Rattle.applied.specs.Applied.{Plan, IsApplied, AreMoves};
 ghost use Rattle.applied.specs.Built.{applied};
 
@@ -25,4 +26,9 @@ pub fn one_can_trap()
 pub fn applied_stands()
     ensures stands { (m : Program) (plans : ℕ → Plan) → IsApplied m plans (applied m plans) }
     ensures alone { (m m_new : Program) (plans : ℕ → Plan) → IsApplied m plans m_new → m_new ≡ applied m plans }
+{}
+
+/// The placement that inserts nothing, and keeps each occurrence that is the first event of its block or behind a kill, is correct and safe.
+pub fn block_moves_are_moves()
+    ensures { (program : Program) (function : Function) (move_of : Move) → IsBlockMove program function move_of → IsMove program function move_of }
 {}
