@@ -10,3 +10,4 @@ pub mod Names
 pub mod MadeNames
 pub mod Regions
 pub mod Rules
+pub mod EdgeLists

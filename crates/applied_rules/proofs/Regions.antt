@@ -37,7 +37,7 @@ groups_inserted edge (move ∷ moves) e = by (move.inserted edge) refl e (λ e'.
 
 -- ---- the edges of one place
 
-leave_each : (R : Edge → Type 0) (b : ℕ) (term : Terminator) → (is_single term ≡ true → R (Slot b 0)) → (found : Option Instr) → Each R (leaving b found term)
+pub leave_each : (R : Edge → Type 0) (b : ℕ) (term : Terminator) → (is_single term ≡ true → R (Slot b 0)) → (found : Option Instr) → Each R (leaving b found term)
 leave_each R b term one (Some instr) = tt
 leave_each R b term one None = by (is_single term) refl
   where
@@ -53,10 +53,10 @@ leave_apart b term None = by (is_single term)
     by true = (tt, tt)
     by false = tt
 
-abbrev edges_at : ℕ → ℕ → Option Instr → Terminator → List Edge
+abbrev pub edges_at : ℕ → ℕ → Option Instr → Terminator → List Edge
 edges_at b k found term = entering k b ++ Inside b k ∷ leaving b found term
 
-edges_each : (R : Edge → Type 0) (k b : ℕ) (found : Option Instr) (term : Terminator) → (k ≡ 0 → b ≡ 0 → R Entry) → R (Inside b k) → (is_single term ≡ true → R (Slot b 0)) → Each R (edges_at b k found term)
+pub edges_each : (R : Edge → Type 0) (k b : ℕ) (found : Option Instr) (term : Terminator) → (k ≡ 0 → b ≡ 0 → R Entry) → R (Inside b k) → (is_single term ≡ true → R (Slot b 0)) → Each R (edges_at b k found term)
 edges_each R zero zero found term entry inside slot = (entry refl refl, (inside, leave_each R zero term slot found))
 edges_each R zero (suc b) found term entry inside slot = (inside, leave_each R (suc b) term slot found)
 edges_each R (suc k) b found term entry inside slot = (inside, leave_each R b term slot found)
@@ -64,65 +64,65 @@ edges_each R (suc k) b found term entry inside slot = (inside, leave_each R b te
 inside_first : (b k : ℕ) (found : Option Instr) (term : Terminator) → Apart (Inside b k ∷ leaving b found term)
 inside_first b k found term = (leave_each (λ f. Inside b k ≢ f) b term (λ is e. cc) found, leave_apart b term found)
 
-edges_apart : (k b : ℕ) (found : Option Instr) (term : Terminator) → Apart (edges_at b k found term)
+pub edges_apart : (k b : ℕ) (found : Option Instr) (term : Terminator) → Apart (edges_at b k found term)
 edges_apart zero zero found term = (((λ e. cc), leave_each (λ f. Entry ≢ f) zero term (λ is e. cc) found), inside_first zero zero found term)
 edges_apart zero (suc b) found term = inside_first (suc b) zero found term
 edges_apart (suc k) b found term = inside_first b (suc k) found term
 
 -- ---- regions
 
-abbrev HereOnly : ℕ → ℕ → Edge → Type 0
+abbrev pub HereOnly : ℕ → ℕ → Edge → Type 0
 HereOnly b k Entry = (k ≡ 0) × (b ≡ 0)
 HereOnly b k (Inside c j) = (c ≡ b) × (j ≡ k)
 HereOnly b k (Slot c s) = ⊥
 
 -- the edges whose groups stand in the block from the place k on
-abbrev InText : Terminator → ℕ → ℕ → Edge → Type 0
+abbrev pub InText : Terminator → ℕ → ℕ → Edge → Type 0
 InText term b k Entry = (k ≡ 0) × (b ≡ 0)
 InText term b k (Inside c j) = (c ≡ b) × (k ≤ j)
 InText term b k (Slot c s) = (c ≡ b) × (is_single term ≡ true)
 
-abbrev InSplits : Terminator → ℕ → ℕ → Edge → Type 0
+abbrev pub InSplits : Terminator → ℕ → ℕ → Edge → Type 0
 InSplits term b slot Entry = ⊥
 InSplits term b slot (Inside c j) = ⊥
 InSplits term b slot (Slot c s) = (c ≡ b) × (slot ≤ s) × (is_single term ≡ false)
 
-abbrev InBlock : ℕ → Edge → Type 0
+abbrev pub InBlock : ℕ → Edge → Type 0
 InBlock b Entry = b ≡ 0
 InBlock b (Inside c j) = c ≡ b
 InBlock b (Slot c s) = c ≡ b
 
-abbrev FromBlock : ℕ → Edge → Type 0
+abbrev pub FromBlock : ℕ → Edge → Type 0
 FromBlock b Entry = b ≡ 0
 FromBlock b (Inside c j) = b ≤ c
 FromBlock b (Slot c s) = b ≤ c
 
-here_then : (term : Terminator) (b k : ℕ) (edge : Edge) → HereOnly b k edge → InText term b (suc k) edge → ⊥
+pub here_then : (term : Terminator) (b k : ℕ) (edge : Edge) → HereOnly b k edge → InText term b (suc k) edge → ⊥
 here_then term b k Entry here text = let e = text.0 in cc
 here_then term b k (Inside c j) here text = omega (arith, here.1, text.1)
 here_then term b k (Slot c s) here text = here
 
-text_more : (term : Terminator) (b k : ℕ) (edge : Edge) → InText term b (suc k) edge → InText term b k edge
+pub text_more : (term : Terminator) (b k : ℕ) (edge : Edge) → InText term b (suc k) edge → InText term b k edge
 text_more term b k Entry text = let e = text.0 in absurd cc
 text_more term b k (Inside c j) text = (text.0, omega (arith, text.1))
 text_more term b k (Slot c s) text = text
 
-text_then : (term : Terminator) (b : ℕ) (edge : Edge) → InText term b 0 edge → InSplits term b 0 edge → ⊥
+pub text_then : (term : Terminator) (b : ℕ) (edge : Edge) → InText term b 0 edge → InSplits term b 0 edge → ⊥
 text_then term b Entry text splits = splits
 text_then term b (Inside c j) text splits = splits
 text_then term b (Slot c s) text splits = let e : true ≡ false = sym text.1 ∙ splits.2 in cc
 
-text_block : (term : Terminator) (b : ℕ) (edge : Edge) → InText term b 0 edge → InBlock b edge
+pub text_block : (term : Terminator) (b : ℕ) (edge : Edge) → InText term b 0 edge → InBlock b edge
 text_block term b Entry text = text.1
 text_block term b (Inside c j) text = text.0
 text_block term b (Slot c s) text = text.0
 
-splits_block : (term : Terminator) (b slot : ℕ) (edge : Edge) → InSplits term b slot edge → InBlock b edge
+pub splits_block : (term : Terminator) (b slot : ℕ) (edge : Edge) → InSplits term b slot edge → InBlock b edge
 splits_block term b slot Entry splits = absurd splits
 splits_block term b slot (Inside c j) splits = absurd splits
 splits_block term b slot (Slot c s) splits = splits.0
 
-splits_more : (term : Terminator) (b slot : ℕ) (edge : Edge) → InSplits term b (suc slot) edge → InSplits term b slot edge
+pub splits_more : (term : Terminator) (b slot : ℕ) (edge : Edge) → InSplits term b (suc slot) edge → InSplits term b slot edge
 splits_more term b slot Entry splits = splits
 splits_more term b slot (Inside c j) splits = splits
 splits_more term b slot (Slot c s) splits = (splits.0, omega (arith, splits.1), splits.2)
@@ -132,17 +132,17 @@ slot_then term b slot Entry is splits = splits
 slot_then term b slot (Inside c j) is splits = splits
 slot_then term b slot (Slot c s) is splits = let e : s ≡ slot = cc in omega (arith, e, splits.1)
 
-block_then : (b : ℕ) (edge : Edge) → InBlock b edge → FromBlock (suc b) edge → ⊥
+pub block_then : (b : ℕ) (edge : Edge) → InBlock b edge → FromBlock (suc b) edge → ⊥
 block_then b Entry here from = cc
 block_then b (Inside c j) here from = omega (arith, here, from)
 block_then b (Slot c s) here from = omega (arith, here, from)
 
-block_from : (b : ℕ) (edge : Edge) → InBlock b edge → FromBlock b edge
+pub block_from : (b : ℕ) (edge : Edge) → InBlock b edge → FromBlock b edge
 block_from b Entry here = here
 block_from b (Inside c j) here = omega (arith, here)
 block_from b (Slot c s) here = omega (arith, here)
 
-from_more : (b : ℕ) (edge : Edge) → FromBlock (suc b) edge → FromBlock b edge
+pub from_more : (b : ℕ) (edge : Edge) → FromBlock (suc b) edge → FromBlock b edge
 from_more b Entry from = absurd cc
 from_more b (Inside c j) from = omega (arith, from)
 from_more b (Slot c s) from = omega (arith, from)
