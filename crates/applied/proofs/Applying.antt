@@ -80,7 +80,7 @@ unkept_by : (kept inserted live : Bool) → (if kept then (if inserted then fals
 unkept_by kept inserted live e e' e'' false is = is
 unkept_by kept inserted live e e' e'' true is = absurd (not_true _ e (stored_is kept inserted live is e' e''))
 
-length_temporaries : (naming : Naming) (moves : List Move) → length (temporaries naming moves) ≡ length moves
+pub length_temporaries : (naming : Naming) (moves : List Move) → length (temporaries naming moves) ≡ length moves
 length_temporaries naming [] = refl
 length_temporaries naming (move ∷ moves) = ap suc (length_temporaries naming moves)
 

@@ -11,3 +11,4 @@ pub mod MadeNames
 pub mod Regions
 pub mod Rules
 pub mod EdgeLists
+pub mod Sizes

@@ -23,7 +23,7 @@ each_contained [] = tt
 each_contained (x ∷ xs) =
     ((0, omega arith, refl), each_by (Contains xs) (Contains (x ∷ xs)) (λ y c. contains_more y x xs c) xs (each_contained xs))
 
-each_both : {A : Type 0} (P Q : A → Type 0) (xs : List A) → Each P xs → Each Q xs → Each (λ x. P x × Q x) xs
+pub each_both : {A : Type 0} (P Q : A → Type 0) (xs : List A) → Each P xs → Each Q xs → Each (λ x. P x × Q x) xs
 each_both P Q [] p q = tt
 each_both P Q (x ∷ xs) p q = ((p.0, q.0), each_both P Q xs p.1 q.1)
 

@@ -50,13 +50,13 @@ temp_width naming (v ∷ vars) moves x move e =
     let n : suc (length vars) + x ≡ suc (length vars + x) = omega arith in
     ap (slice_get (widths (v ∷ (vars ++ temporaries naming moves)))) n ∙ temp_width naming vars moves x move e
 
-few_widths : (op : Op) → length (argument_widths op) ≤ 3
+pub few_widths : (op : Op) → length (argument_widths op) ≤ 3
 few_widths (Bin bin w) = omega arith
 few_widths (Icmp pred w) = omega arith
 few_widths (Cast cast from to) = omega arith
 few_widths (Select w) = omega arith
 
-each_at : (P : Move → Type 0) (moves : List Move) → ((x : ℕ) (move : Move) → slice_get moves x ≡ Some move → P move) → Each P moves
+pub each_at : (P : Move → Type 0) (moves : List Move) → ((x : ℕ) (move : Move) → slice_get moves x ≡ Some move → P move) → Each P moves
 each_at P [] at = tt
 each_at P (move ∷ moves) at = (at 0 move refl, each_at P moves (λ x other e. at (suc x) other e))
 

@@ -34,7 +34,7 @@ copied_result temp number v instr (move ∷ moves) = by (move.deleted v) (copied
     by true rest = refl
     by false rest = rest
 
-stored_kept : (kept inserted live : Bool) → (if kept then (if inserted then false else live) else false) ≡ true → kept ≡ true
+pub stored_kept : (kept inserted live : Bool) → (if kept then (if inserted then false else live) else false) ≡ true → kept ≡ true
 stored_kept true inserted live e = refl
 stored_kept false inserted live e = absurd cc
 
