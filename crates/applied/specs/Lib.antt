@@ -1,0 +1,5 @@
+pub mod Applied
+pub mod Built
+pub mod InBlocks
+pub mod Motion
+pub mod Renamed

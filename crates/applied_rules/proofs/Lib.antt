@@ -1,0 +1,14 @@
+pub mod Scopes
+pub mod Operands
+pub mod Groups
+pub mod Texts
+pub mod Blocks
+pub mod Spelled
+pub mod Apart
+pub mod Tags
+pub mod Names
+pub mod MadeNames
+pub mod Regions
+pub mod Rules
+pub mod EdgeLists
+pub mod Sizes
