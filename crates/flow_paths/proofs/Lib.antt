@@ -1,0 +1,5 @@
+pub mod LiveLemmas
+pub mod PathLemmas
+pub mod SearchSteps
+pub mod Validity
+pub mod Wordings

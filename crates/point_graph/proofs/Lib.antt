@@ -1,0 +1,3 @@
+mod BlockStarts
+mod Numbered
+mod Ranges
