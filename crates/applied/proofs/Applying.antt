@@ -24,7 +24,9 @@ use Rattle.ir_machine.specs.declared.frame.Frame.{Frame}
 use Rattle.ir_machine.specs.Step.{Globals, value_in, past, computed, first_frame, instr_act, term_act, branched, switched, takes, block_act, act_in, block_at, blocks_of, frames_of, written}
 use Rattle.ir_machine.specs.Same.{Same, is_defined}
 use Rattle.applied.specs.Renamed.{renamed_kind}
-use Rattle.applied.specs.Motion.{Point, Start, Head, Place, Edge, Entry, Inside, Slot, slot_target, Joins, IsReached, Expr, expr_in, OccursIn, Move, IsMove}
+use Rattle.point_graph.specs.Graph.{Point, Start, Head, Place, Edge, Entry, Inside, Slot, Joins, IsReached}
+use Rattle.expressions.specs.declared.syntax.Expr.{Expr}
+use Rattle.applied.specs.Motion.{slot_target, expr_in, OccursIn, Move, IsMove}
 use Rattle.applied.specs.Applied.{Naming, Plan, StandsAt, groups, groups_along, edges_before, leaving, copied, is_stored, stores, has_groups, new_target, new_cases, new_term, is_single, temporaries, BlockApplied, split_block, FunctionApplied, IsApplied, AreMoves}
 use Rattle.applied.proofs.Fitting.{IsEarlier, KindFits, EndFits, FunctionFits, function_fits}
 use Rattle.applied.proofs.Loads.{Done, GoesOn, behind, length_done}

@@ -9,7 +9,8 @@ use Rattle.ir_types.specs.declared.syntax.Instr.{Instr}
 use Rattle.ir_types.specs.declared.syntax.Terminator.{Terminator}
 use Rattle.ir_types.specs.declared.syntax.Block.{Block}
 use Rattle.ir_types.specs.declared.syntax.Function.{Function}
-use Rattle.applied.specs.Motion.{Place, Slot, slot_target, Move}
+use Rattle.point_graph.specs.Graph.{Place, Slot}
+use Rattle.applied.specs.Motion.{slot_target, Move}
 use Rattle.applied.specs.Applied.{Naming, Plan, StandsAt, groups_along, edges_before, copied, stores, has_groups, Layout, splits_before, is_single, splits_at, block_count, split_block, IsSplit, BlockApplied, FunctionApplied, AllApplied, IsApplied}
 use Rattle.applied.specs.Built.{start_of, number_of, text_from, new_block, split_one, splits_from, split_blocks, new_blocks, home_from, layout_of, applied_function, applied_from, applied}
 use Rattle.applied.proofs.Steps.{stands_whole, stands_further}

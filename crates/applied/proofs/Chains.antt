@@ -12,7 +12,11 @@ use Rattle.ir_types.specs.declared.syntax.Function.{Function}
 use Rattle.machines.proofs.ByFrames.{TrapsIn}
 use Rattle.ir_machine.specs.declared.frame.Frame.{Frame}
 use Rattle.ir_machine.specs.Step.{Globals, frames_of}
-use Rattle.applied.specs.Motion.{Point, Start, Head, Place, Edge, Joins, IsReached, Arg, ConstArg, ParamArg, VarArg, Expr, expr_in, IsArg, Occurs, IsInevitable, Move, IsMove}
+use Rattle.point_graph.specs.Graph.{Point, Start, Head, Place, Edge, Joins, IsReached}
+use Rattle.expressions.specs.declared.syntax.Arg.{Arg}
+use Rattle.expressions.specs.declared.syntax.Arg.TheVariants.{Const as ConstArg, Param as ParamArg, Var as VarArg}
+use Rattle.expressions.specs.declared.syntax.Expr.{Expr}
+use Rattle.applied.specs.Motion.{expr_in, IsArg, Occurs, IsInevitable, Move, IsMove}
 use Rattle.applied.specs.Applied.{Naming, StandsAt, groups, groups_along}
 use Rattle.applied.proofs.Fitting.{KindFits, FunctionFits, length_zip}
 use Rattle.applied.proofs.Traps.{expr_can_trap}

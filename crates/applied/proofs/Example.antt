@@ -24,7 +24,10 @@ use Rattle.machines.specs.Runs.{TookByte, At, Over, after}
 use Rattle.machines.specs.Meaning.{ByReturn, machine_of}
 use Rattle.ir_machine.specs.Step.{frames_of}
 use Rattle.ir_machine.specs.Same.{start}
-use Rattle.applied.specs.Motion.{Point, Head, Place, Edge, Slot, ConstArg, VarArg, Expr, Move}
+use Rattle.point_graph.specs.Graph.{Point, Head, Place, Edge, Slot}
+use Rattle.expressions.specs.declared.syntax.Arg.TheVariants.{Const as ConstArg, Var as VarArg}
+use Rattle.expressions.specs.declared.syntax.Expr.{Expr}
+use Rattle.applied.specs.Motion.{Move}
 use Rattle.applied.specs.Applied.{Plan}
 use Rattle.applied.specs.Built.{applied}
 

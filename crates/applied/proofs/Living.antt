@@ -5,7 +5,8 @@ use Rattle.std.proofs.Math.Seq.{get_or-append_seam}
 use Rattle.std.proofs.lemmas.List.{get_or-append-add}
 use Rattle.ir_types.specs.declared.syntax.Function.{Function}
 use Rattle.ir_types.specs.Program.{Program}
-use Rattle.applied.specs.Motion.{Point, Start, Edge, Joins, Hop, IsPath, IsReached, Met, at_point, on_edge, met, Writes, Kills, KillsMet, IsLive, Move, IsMove}
+use Rattle.point_graph.specs.Graph.{Point, Start, Edge, Joins, Hop, IsPath, IsReached}
+use Rattle.applied.specs.Motion.{Met, at_point, on_edge, met, Writes, Kills, KillsMet, IsLive, Move, IsMove}
 
 path_append : (function : Function) (u : Point) (path : List Hop) (v : Point) (rest : List Hop) (w : Point) → IsPath function u path v → IsPath function v rest w → IsPath function u (path ++ rest) w
 path_append function u [] v rest w leads more = subst (λ x. IsPath function x rest w) (sym leads) more

@@ -11,7 +11,12 @@ use Rattle.ir_types.specs.declared.syntax.Variable.{Variable}
 use Rattle.ir_types.specs.declared.syntax.Kind.TheVariants.{Load, Compute}
 use Rattle.ir_types.specs.declared.syntax.Instr.{Instr}
 use Rattle.ir_types.specs.declared.syntax.Function.{Function}
-use Rattle.applied.specs.Motion.{Point, Start, Head, Place, Arg, ConstArg, ParamArg, VarArg, Expr, IsLoaded, IsArg, Occurs, Kills, constant_operand, constant_arg, expr_traps, KindBars, PlaceBars, Bars, LeadsAllTo, IsInevitableWithin, IsInevitable}
+use Rattle.point_graph.specs.Graph.{Point, Start, Head, Place}
+use Rattle.expressions.specs.declared.syntax.Arg.{Arg}
+use Rattle.expressions.specs.declared.syntax.Arg.TheVariants.{Const as ConstArg, Param as ParamArg, Var as VarArg}
+use Rattle.expressions.specs.declared.syntax.Expr.{Expr}
+use Rattle.expressions.specs.Expressions.{constant_operand, constant_arg, expr_traps}
+use Rattle.applied.specs.Motion.{IsLoaded, IsArg, Occurs, Kills, KindBars, PlaceBars, Bars, LeadsAllTo, IsInevitableWithin, IsInevitable}
 
 one_loaded : (m : Program) (instrs : List Instr) (k r : ℕ) (x y : Variable) → IsLoaded m instrs k r x → IsLoaded m instrs k r y → x ≡ y
 one_loaded m instrs k r x y is is' =

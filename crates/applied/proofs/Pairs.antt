@@ -10,7 +10,8 @@ use Rattle.ir_types.specs.declared.syntax.Block.{Block}
 use Rattle.ir_types.specs.declared.syntax.Function.{Function}
 use Rattle.ir_machine.specs.Same.{Outline, outline, is_defined}
 use Rattle.applied.specs.Renamed.{renamed_kind}
-use Rattle.applied.specs.Motion.{Point, Edge, Move}
+use Rattle.point_graph.specs.Graph.{Point, Edge}
+use Rattle.applied.specs.Motion.{Move}
 use Rattle.applied.specs.Applied.{Plan, copied, has_groups, block_count, FunctionApplied, AllApplied}
 use Rattle.applied.proofs.Trapping.{block_found}
 

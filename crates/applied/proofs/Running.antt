@@ -20,7 +20,10 @@ use Rattle.machines.specs.Acts.{Goes}
 use Rattle.machines.proofs.ByFrames.{TrapsIn, Comes, FollowsFrame, TrapsToo}
 use Rattle.ir_machine.specs.declared.frame.Frame.{Frame}
 use Rattle.ir_machine.specs.Step.{Globals, value_in, variable_in, past, computed, block_at, frames_of}
-use Rattle.applied.specs.Motion.{Edge, Arg, ConstArg, ParamArg, VarArg, arg_in, expr_in, Move}
+use Rattle.point_graph.specs.Graph.{Edge}
+use Rattle.expressions.specs.declared.syntax.Arg.{Arg}
+use Rattle.expressions.specs.declared.syntax.Arg.TheVariants.{Const as ConstArg, Param as ParamArg, Var as VarArg}
+use Rattle.applied.specs.Motion.{arg_in, expr_in, Move}
 use Rattle.applied.specs.Applied.{Naming, made, StandsAt, arg_load, arg_loads, load_count, arg_operand, arg_operands, store_to, group, groups, is_stored, stores}
 use Rattle.applied.proofs.Fitting.{VariableWithin, IsEarlier}
 use Rattle.applied.proofs.Steps.{Further, further_none, further_past, further_then, further_length, further_value, stands_both, acts, goes, comes_goes}

@@ -20,7 +20,11 @@ use Rattle.machines.specs.Acts.{Act, Slot as TakenSlot, Goes, Traps}
 use Rattle.machines.proofs.ByFrames.{TrapsIn}
 use Rattle.ir_machine.specs.declared.frame.Frame.{Frame}
 use Rattle.ir_machine.specs.Step.{Globals, value_in, variable_in, computed, instr_act, block_act, act_in, block_at, blocks_of, term_act, branched, switched, frames_of}
-use Rattle.applied.specs.Motion.{Point, Start, Head, Place, Edge, Inside, Slot, slot_target, Joins, Arg, ConstArg, ParamArg, VarArg, ChangesArg, ChangesSome, Expr, arg_in, expr_in, IsArg, OccursIn, Occurs, Kills, KindBars, TermBars, PlaceBars, Bars, LeadsAllTo, IsInevitableWithin}
+use Rattle.point_graph.specs.Graph.{Point, Start, Head, Place, Edge, Inside, Slot, Joins}
+use Rattle.expressions.specs.declared.syntax.Arg.{Arg}
+use Rattle.expressions.specs.declared.syntax.Arg.TheVariants.{Const as ConstArg, Param as ParamArg, Var as VarArg}
+use Rattle.expressions.specs.declared.syntax.Expr.{Expr}
+use Rattle.applied.specs.Motion.{slot_target, ChangesArg, ChangesSome, arg_in, expr_in, IsArg, OccursIn, Occurs, Kills, KindBars, TermBars, PlaceBars, Bars, LeadsAllTo, IsInevitableWithin}
 use Rattle.applied.proofs.Fitting.{KindFits, FunctionFits}
 use Rattle.applied.proofs.Loads.{Done, behind, LoadsHold, loads_hold, kept}
 use Rattle.applied.proofs.Traps.{computes_ok}

@@ -13,7 +13,11 @@ use Rattle.ir_types.specs.declared.syntax.Operand.{Operand}
 use Rattle.ir_types.specs.declared.syntax.Operand.TheVariants.{Const, Param, Reg}
 use Rattle.ir_machine.specs.declared.frame.Frame.{Frame}
 use Rattle.ir_machine.specs.Step.{Globals, value_in}
-use Rattle.applied.specs.Motion.{Arg, ConstArg, ParamArg, VarArg, arg_in, Expr, expr_in, constant_operand, constant_arg, expr_traps}
+use Rattle.expressions.specs.declared.syntax.Arg.{Arg}
+use Rattle.expressions.specs.declared.syntax.Arg.TheVariants.{Const as ConstArg, Param as ParamArg, Var as VarArg}
+use Rattle.expressions.specs.declared.syntax.Expr.{Expr}
+use Rattle.expressions.specs.Expressions.{constant_operand, constant_arg, expr_traps}
+use Rattle.applied.specs.Motion.{arg_in, expr_in}
 
 -- a value is no trap, and a test that fails leaves none
 ok_is_no_trap : (n : ℕ) (t : Trap) → ◌≡◌ {A = Result ℕ Trap} (Ok n) (Err t) → ⊥

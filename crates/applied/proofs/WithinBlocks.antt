@@ -14,7 +14,11 @@ use Rattle.ir_types.specs.declared.syntax.Instr.{Instr}
 use Rattle.ir_types.specs.declared.syntax.Block.{Block}
 use Rattle.ir_types.specs.declared.syntax.Function.{Function}
 use Rattle.mc_num.specs.declared.op.Op.{Op}
-use Rattle.applied.specs.Motion.{Point, Start, Head, Place, Edge, Entry, Inside, Slot, point_before, Joins, Hop, IsPath, IsReached, Arg, ConstArg, ParamArg, VarArg, Expr, defined_in, ChangesVariable, ChangesArg, ChangesSome, OccursIn, Occurs, KillsIn, Kills, Met, at_point, on_edge, met, KillsMet, IsValid, Move, IsMove}
+use Rattle.point_graph.specs.Graph.{Point, Start, Head, Place, Edge, Entry, Inside, Slot, point_before, Joins, Hop, IsPath, IsReached}
+use Rattle.expressions.specs.declared.syntax.Arg.{Arg}
+use Rattle.expressions.specs.declared.syntax.Arg.TheVariants.{Const as ConstArg, Param as ParamArg, Var as VarArg}
+use Rattle.expressions.specs.declared.syntax.Expr.{Expr}
+use Rattle.applied.specs.Motion.{defined_in, ChangesVariable, ChangesArg, ChangesSome, OccursIn, Occurs, KillsIn, Kills, Met, at_point, on_edge, met, KillsMet, IsValid, Move, IsMove}
 use Rattle.applied.specs.InBlocks.{IsFresh, IsBlockMove}
 use Rattle.applied.proofs.Living.{not_true}
 

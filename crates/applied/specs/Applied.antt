@@ -19,7 +19,10 @@ use Rattle.ir_types.specs.declared.syntax.Terminator.TheVariants.{Return, Jump, 
 use Rattle.ir_types.specs.declared.syntax.Block.{Block}
 use Rattle.ir_types.specs.declared.syntax.Function.{Function}
 use Rattle.applied.specs.Renamed.{renamed, renamed_kind, renamed_option}
-use Rattle.applied.specs.Motion.{Point, Place, Edge, Entry, Inside, Slot, slot_target, Arg, ConstArg, ParamArg, VarArg, Move, IsMove}
+use Rattle.point_graph.specs.Graph.{Point, Place, Edge, Entry, Inside, Slot}
+use Rattle.expressions.specs.declared.syntax.Arg.{Arg}
+use Rattle.expressions.specs.declared.syntax.Arg.TheVariants.{Const as ConstArg, Param as ParamArg, Var as VarArg}
+use Rattle.applied.specs.Motion.{slot_target, Move, IsMove}
 
 -- ---- names
 

@@ -6,7 +6,8 @@ use Rattle.ir_types.specs.declared.syntax.Instr.{Instr}
 use Rattle.ir_types.specs.declared.syntax.Terminator.{Terminator}
 use Rattle.ir_types.specs.declared.syntax.Block.{Block}
 use Rattle.ir_types.specs.declared.syntax.Function.{Function}
-use Rattle.applied.specs.Motion.{Place, Slot, Move}
+use Rattle.point_graph.specs.Graph.{Place, Slot}
+use Rattle.applied.specs.Motion.{Move}
 use Rattle.applied.specs.Applied.{Naming, Plan, groups_along, edges_before, copied, stores, has_groups, Layout, new_term, splits_before, is_single, splits_at, split_block, temporaries}
 
 -- where what belongs to a place of the block begins, and where its instruction stands

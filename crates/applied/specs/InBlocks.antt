@@ -2,7 +2,9 @@
 use Rattle.std.specs.Prelude.{◌≡◌, ◌↔◌, ◌⊎◌, ℕ, ◌<◌, true, false}
 use Rattle.ir_types.specs.Program.{Program}
 use Rattle.ir_types.specs.declared.syntax.Function.{Function}
-use Rattle.applied.specs.Motion.{Point, Start, Head, Place, Edge, IsReached, Expr, Occurs, Kills, Move, IsLive}
+use Rattle.point_graph.specs.Graph.{Point, Start, Head, Place, Edge, IsReached}
+use Rattle.expressions.specs.declared.syntax.Expr.{Expr}
+use Rattle.applied.specs.Motion.{Occurs, Kills, Move, IsLive}
 
 -- of the places of block b before the place k the place j is the last where the expression occurs or is killed
 pub record IsLastEvent (m : Program) (function : Function) (e : Expr) (b k j : ℕ) : Type 0 where

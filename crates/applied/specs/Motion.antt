@@ -1,11 +1,15 @@
--- Points and edges of a function, its expressions, and what a placement of one asks of all paths.
-use Rattle.std.specs.Prelude.{◌≡◌, ◌≢◌, ◌↔◌, ◌⊎◌, ℕ, zero, suc, ◌<◌, ◌≤◌, Bool, true, false, List, [], ◌∷◌, ◌++◌, Option, Some, None, Result, All, length, map, slice_get, slice_index}
+-- The expressions of a function, and what a placement of one asks of all paths.
+use Rattle.std.specs.Prelude.{◌≡◌, ◌≢◌, ◌↔◌, ◌⊎◌, ℕ, zero, suc, ◌<◌, Bool, true, false, List, [], ◌∷◌, ◌++◌, Option, Some, None, Result, All, map, slice_get, slice_index}
 use Rattle.std.specs.List.{AllZip}
 use Rattle.mc_num.specs.Value.{value_of, traps_at}
-use Rattle.mc_num.specs.declared.op.Op.{Op}
 use Rattle.mc_num.specs.declared.op.Trap.{Trap}
 use Rattle.ir_types.specs.Program.{Program}
-use Rattle.ir_types.specs.WellFormed.{targets}
+use Rattle.flow_graph.specs.Slots.{slots_of}
+use Rattle.expressions.specs.declared.syntax.Arg.{Arg}
+use Rattle.expressions.specs.declared.syntax.Arg.TheVariants.{Const as ConstArg, Param as ParamArg, Var as VarArg}
+use Rattle.expressions.specs.declared.syntax.Expr.{Expr}
+use Rattle.expressions.specs.Expressions.{constant_operand, expr_traps}
+use Rattle.point_graph.specs.Graph.{Point, Start, Place, Edge, Joins, Hop, IsPath, IsReached}
 use Rattle.ir_types.specs.declared.syntax.Operand.{Operand}
 use Rattle.ir_types.specs.declared.syntax.Operand.TheVariants.{Const, Param, Reg}
 use Rattle.ir_types.specs.declared.syntax.Variable.{Variable}
@@ -21,79 +25,13 @@ use Rattle.ir_machine.specs.Step.{Globals, variable_in, blocks_of}
 use Rattle.ir_machine.specs.Same.{is_defined}
 use Rattle.ir_machine.specs.declared.frame.Frame.{Frame}
 
--- ---- points, edges and paths
-
--- Start, the head of a block, and the places of a block: its instructions, and behind them its terminator
-pub data Point : Type 0 where
-  Start : Point
-  Head : (block : ℕ) → Point
-  Place : (block place : ℕ) → Point
-
--- the edge from Start, the edge of a block to one of its places, and a slot of a block
-pub data Edge : Type 0 where
-  Entry : Edge
-  Inside : (block place : ℕ) → Edge
-  Slot : (block slot : ℕ) → Edge
-
 -- where a slot leads
 abbrev pub slot_target : Terminator → ℕ → Option ℕ
-slot_target term slot = slice_get (targets term) slot
-
--- the point before a place of its block
-abbrev pub point_before : ℕ → ℕ → Point
-point_before block zero = Head block
-point_before block (suc place) = Place block place
-
-pub record InsideJoins (function : Function) (b k : ℕ) (u v : Point) : Type 0 where
-  pub block : Block
-  pub block_there : slice_get function.blocks b ≡ Some block
-  pub within : k ≤ length block.instrs
-  pub begins : u ≡ point_before b k
-  pub ends : v ≡ Place b k
-
-pub record SlotJoins (function : Function) (b slot : ℕ) (u v : Point) : Type 0 where
-  pub block : Block
-  pub block_there : slice_get function.blocks b ≡ Some block
-  pub target : ℕ
-  pub leads : slot_target block.term slot ≡ Some target
-  pub begins : u ≡ Place b (length block.instrs)
-  pub ends : v ≡ Head target
-
--- the edge leads from u to v
-abbrev pub Joins : Function → Edge → Point → Point → Type 0
-Joins function Entry u v = (u ≡ Start) × (v ≡ Head 0)
-Joins function (Inside b k) u v = InsideJoins function b k u v
-Joins function (Slot b slot) u v = SlotJoins function b slot u v
-
--- one edge of a path
-pub record Hop : Type 0 where
-  pub from : Point
-  pub edge : Edge
-  pub to : Point
-
--- the path leads from u to v: each edge begins where the one before ends
-abbrev pub IsPath : Function → Point → List Hop → Point → Type 0
-IsPath function u [] v = u ≡ v
-IsPath function u (hop ∷ path) v = (u ≡ hop.from) × Joins function hop.edge hop.from hop.to × IsPath function hop.to path v
-
--- some path from Start leads to v
-pub record IsReached (function : Function) (v : Point) : Type 0 where
-  pub path : List Hop
-  pub leads : IsPath function Start path v
+slot_target term slot = slice_get (slots_of term) slot
 
 -- ---- expressions
 
--- an operand of an expression
-pub data Arg : Type 0 where
-  ConstArg : (value : ℕ) → Arg
-  ParamArg : (param : ℕ) → Arg
-  VarArg : (variable : Variable) → Arg
-
--- an operation on constants, parameters and variables
-pub record Expr : Type 0 where
-  pub op : Op
-  pub args : List Arg
-
+-- the value of an operand
 abbrev pub arg_in : Globals → Frame → Arg → ℕ
 arg_in globals frame (ConstArg value) = value
 arg_in globals frame (ParamArg p) = slice_index frame.arguments p
@@ -170,19 +108,6 @@ pub record KillsIn (m : Program) (function : Function) (e : Expr) (b k : ℕ) : 
 abbrev pub Kills : Program → Function → Expr → Point → Type 0
 Kills m function e (Place b k) = KillsIn m function e b k
 Kills m function e point = ⊥
-
--- the divisor, the second operand, where it is a constant
-abbrev pub constant_operand : Option Operand → Option ℕ
-constant_operand (Some (Const value)) = Some value
-constant_operand _ = None
-
-abbrev pub constant_arg : Option Arg → Option ℕ
-constant_arg (Some (ConstArg value)) = Some value
-constant_arg _ = None
-
--- the expression can trap
-abbrev pub expr_traps : Expr → Bool
-expr_traps e = traps_at e.op (constant_arg (slice_get e.args 1))
 
 -- a call, an operation that can trap, a return and an unreachable bar
 abbrev pub KindBars : Kind → Type 0

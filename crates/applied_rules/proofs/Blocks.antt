@@ -16,7 +16,8 @@ use Rattle.ir_types.specs.declared.syntax.Terminator.TheVariants.{Return, Jump, 
 use Rattle.ir_types.specs.declared.syntax.Block.{Block}
 use Rattle.ir_types.specs.declared.syntax.Function.{Function}
 use Rattle.applied.specs.Renamed.{renamed}
-use Rattle.applied.specs.Motion.{Slot, slot_target, Move, IsMove}
+use Rattle.point_graph.specs.Graph.{Slot}
+use Rattle.applied.specs.Motion.{slot_target, Move, IsMove}
 use Rattle.applied.specs.Applied.{Naming, groups, has_groups, Layout, new_target, new_cases, new_term, is_single, splits_before, splits_at, block_count, split_block}
 use Rattle.applied.specs.Built.{new_block, split_one, splits_from, split_blocks, new_blocks, home_from, layout_of}
 use Rattle.applied.proofs.Fitting.{function_fits}

@@ -5,7 +5,7 @@ use Rattle.ir_types.specs.WellFormed.{targets}
 use Rattle.ir_types.specs.declared.syntax.Instr.{Instr}
 use Rattle.ir_types.specs.declared.syntax.Terminator.{Terminator}
 use Rattle.ir_types.specs.declared.syntax.Block.{Block}
-use Rattle.applied.specs.Motion.{Edge, Entry, Inside, Slot}
+use Rattle.point_graph.specs.Graph.{Edge, Entry, Inside, Slot}
 use Rattle.applied.specs.Applied.{edges_before, is_single}
 use Rattle.applied_rules.proofs.Apart.{Each, Apart, each_by, each_append, apart_append}
 use Rattle.applied_rules.proofs.Regions.{HereOnly, InText, InSplits, InBlock, FromBlock, here_then, text_more, text_then, text_block, splits_block, splits_more, block_then, block_from, from_more, edges_each, edges_apart, edges_at}

@@ -10,7 +10,10 @@ use Rattle.ir_types.specs.declared.syntax.Operand.TheVariants.{Reg}
 use Rattle.ir_types.specs.declared.syntax.Variable.TheVariants.{Local}
 use Rattle.ir_types.specs.declared.syntax.Kind.TheVariants.{Compute}
 use Rattle.ir_types.specs.declared.syntax.Instr.{Instr}
-use Rattle.applied.specs.Motion.{Edge, Arg, ConstArg, ParamArg, VarArg, Move}
+use Rattle.point_graph.specs.Graph.{Edge}
+use Rattle.expressions.specs.declared.syntax.Arg.{Arg}
+use Rattle.expressions.specs.declared.syntax.Arg.TheVariants.{Const as ConstArg, Param as ParamArg, Var as VarArg}
+use Rattle.applied.specs.Motion.{Move}
 use Rattle.applied.specs.Applied.{Naming, made, StandsAt, arg_loads, arg_operands, store_to, group, groups, groups_along, is_stored, stores}
 use Rattle.applied.proofs.Steps.{stands_both}
 use Rattle.applied_rules.proofs.Scopes.{given_at, HasAt, FitsAt}

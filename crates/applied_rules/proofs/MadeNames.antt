@@ -2,7 +2,10 @@
 use Rattle.std.proofs.Common.{◌≡◌, ◌≢◌, ℕ, suc, ◌+◌, ◌^◌, ◌<◌, ◌≤◌, Bool, true, false, if◌then◌else◌, List, [], ◌∷◌, ◌++◌, length, refl, ap, arith}
 use Rattle.ir_types.specs.declared.name.Made.{Made}
 use Rattle.ir_types.specs.declared.name.Made.TheVariants.{Temp, Sum, Operand, Split}
-use Rattle.applied.specs.Motion.{Edge, Arg, ConstArg, ParamArg, VarArg, Move}
+use Rattle.point_graph.specs.Graph.{Edge}
+use Rattle.expressions.specs.declared.syntax.Arg.{Arg}
+use Rattle.expressions.specs.declared.syntax.Arg.TheVariants.{Const as ConstArg, Param as ParamArg, Var as VarArg}
+use Rattle.applied.specs.Motion.{Move}
 use Rattle.applied.specs.Applied.{Naming}
 use Rattle.applied_rules.proofs.Apart.{Each, EachPair, Apart, each_by, each_append, apart_append}
 use Rattle.applied_rules.proofs.Spelled.{FitsMade}

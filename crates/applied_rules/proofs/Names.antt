@@ -13,7 +13,8 @@ use Rattle.ir_types.specs.declared.name.Name.{Name}
 use Rattle.ir_types.specs.declared.syntax.Instr.{Instr}
 use Rattle.ir_types.specs.declared.syntax.Block.{Block}
 use Rattle.ir_types.specs.declared.syntax.Function.{Function}
-use Rattle.applied.specs.Motion.{Place, Slot, Move}
+use Rattle.point_graph.specs.Graph.{Place, Slot}
+use Rattle.applied.specs.Motion.{Move}
 use Rattle.applied.specs.Applied.{Naming, made, groups_along, edges_before, copied, store_to, is_stored, stores, has_groups, Layout, is_single, split_block, temporaries}
 use Rattle.applied.specs.Built.{text_from, start_of, number_of, split_one, splits_from, split_blocks, new_blocks, layout_of}
 use Rattle.applied_rules.proofs.Texts.{copied_result}

@@ -11,7 +11,11 @@ use Rattle.ir_types.specs.declared.syntax.Operand.TheVariants.{Const, Param, Reg
 use Rattle.ir_types.specs.declared.syntax.Instr.{Instr}
 use Rattle.ir_types.specs.declared.syntax.Block.{Block}
 use Rattle.ir_types.specs.declared.syntax.Function.{Function}
-use Rattle.applied.specs.Motion.{Point, Start, Head, Place, Arg, ConstArg, ParamArg, VarArg, Expr, IsArg, Occurs}
+use Rattle.point_graph.specs.Graph.{Point, Start, Head, Place}
+use Rattle.expressions.specs.declared.syntax.Arg.{Arg}
+use Rattle.expressions.specs.declared.syntax.Arg.TheVariants.{Const as ConstArg, Param as ParamArg, Var as VarArg}
+use Rattle.expressions.specs.declared.syntax.Expr.{Expr}
+use Rattle.applied.specs.Motion.{IsArg, Occurs}
 use Rattle.applied.proofs.Fitting.{all_at}
 use Rattle.applied_rules.proofs.Scopes.{HasAt, FitsAt, at_place, Extends, width_more}
 

@@ -7,7 +7,8 @@ use Rattle.ir_types.specs.declared.name.Made.TheVariants.{Temp, Sum, Operand, Sp
 use Rattle.ir_types.specs.declared.syntax.Instr.{Instr}
 use Rattle.ir_types.specs.declared.syntax.Terminator.{Terminator}
 use Rattle.ir_types.specs.declared.syntax.Block.{Block}
-use Rattle.applied.specs.Motion.{Edge, Entry, Inside, Slot, Move}
+use Rattle.point_graph.specs.Graph.{Edge, Entry, Inside, Slot}
+use Rattle.applied.specs.Motion.{Move}
 use Rattle.applied.specs.Applied.{Naming, entering, leaving, edges_before, is_single, has_groups, IsInserted}
 use Rattle.applied_rules.proofs.Apart.{Each, EachPair, Apart, each_by, each_append, apart_append}
 use Rattle.applied_rules.proofs.Spelled.{FitsMade}

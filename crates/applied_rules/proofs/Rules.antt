@@ -12,7 +12,9 @@ use Rattle.ir_types.specs.WellFormed.{scope, signature, widths, names, CountFrom
 use Rattle.ir_types.specs.declared.name.Name.{Name}
 use Rattle.ir_types.specs.declared.syntax.Block.{Block}
 use Rattle.ir_types.specs.declared.syntax.Function.{Function}
-use Rattle.applied.specs.Motion.{Point, Start, Head, Place, Expr, Occurs, Move, IsMove}
+use Rattle.point_graph.specs.Graph.{Point, Start, Head, Place}
+use Rattle.expressions.specs.declared.syntax.Expr.{Expr}
+use Rattle.applied.specs.Motion.{Occurs, Move, IsMove}
 use Rattle.applied.specs.Applied.{Naming, Plan, temporaries, AreMoves, IsPlan}
 use Rattle.applied.specs.Built.{new_blocks, layout_of, applied_function, applied_from, applied}
 use Rattle.applied.proofs.Fitting.{all_at, function_fits}

@@ -13,7 +13,10 @@ use Rattle.ir_types.specs.declared.syntax.Terminator.{Terminator}
 use Rattle.ir_types.specs.declared.syntax.Terminator.TheVariants.{Return, Jump, Branch, Switch, Unreachable}
 use Rattle.ir_types.specs.declared.syntax.Block.{Block}
 use Rattle.ir_types.specs.declared.syntax.Function.{Function}
-use Rattle.applied.specs.Motion.{Place, Edge, Inside, Slot, Arg, ConstArg, ParamArg, VarArg, Move, IsMove}
+use Rattle.point_graph.specs.Graph.{Place, Edge, Inside, Slot}
+use Rattle.expressions.specs.declared.syntax.Arg.{Arg}
+use Rattle.expressions.specs.declared.syntax.Arg.TheVariants.{Const as ConstArg, Param as ParamArg, Var as VarArg}
+use Rattle.applied.specs.Motion.{Move, IsMove}
 use Rattle.applied.specs.Applied.{Naming, Plan, made, temporaries, arg_loads, arg_operands, copied, group, groups, groups_along, edges_before, store_to, is_stored, stores, has_groups, Layout, is_single, split_block, AreMoves}
 use Rattle.applied.specs.Built.{start_of, number_of, text_from, new_block, split_one, splits_from, split_blocks, new_blocks, layout_of, applied_function}
 use Rattle.applied.proofs.Fitting.{all_at, function_fits}

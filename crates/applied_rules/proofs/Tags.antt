@@ -10,7 +10,10 @@ use Rattle.ir_types.specs.declared.name.Made.TheVariants.{Sum, Operand}
 use Rattle.ir_types.specs.declared.name.Name.{Name}
 use Rattle.ir_types.specs.declared.name.Name.TheVariants.{Text, Number, Made as MadeName}
 use Rattle.ir_types.specs.declared.syntax.Instr.{Instr}
-use Rattle.applied.specs.Motion.{Edge, Arg, ConstArg, ParamArg, VarArg, Move}
+use Rattle.point_graph.specs.Graph.{Edge}
+use Rattle.expressions.specs.declared.syntax.Arg.{Arg}
+use Rattle.expressions.specs.declared.syntax.Arg.TheVariants.{Const as ConstArg, Param as ParamArg, Var as VarArg}
+use Rattle.applied.specs.Motion.{Move}
 use Rattle.applied.specs.Applied.{Naming, made, arg_loads, group, groups, groups_along}
 use Rattle.applied_rules.proofs.Apart.{Each, Apart}
 use Rattle.applied_rules.proofs.Spelled.{FitsMade, same_made}

@@ -12,7 +12,9 @@ use Rattle.ir_types.specs.declared.syntax.Kind.TheVariants.{Load, Compute}
 use Rattle.ir_types.specs.declared.syntax.Instr.{Instr}
 use Rattle.ir_types.specs.declared.syntax.Block.{Block}
 use Rattle.ir_types.specs.declared.syntax.Function.{Function}
-use Rattle.applied.specs.Motion.{Point, Place, Inside, Expr, OccursIn, Move, IsMove}
+use Rattle.point_graph.specs.Graph.{Point, Place, Inside}
+use Rattle.expressions.specs.declared.syntax.Expr.{Expr}
+use Rattle.applied.specs.Motion.{OccursIn, Move, IsMove}
 use Rattle.applied.specs.Applied.{Naming, edges_before, copied, is_stored}
 use Rattle.applied.specs.Built.{text_from, start_of, number_of}
 use Rattle.applied.proofs.Fitting.{all_at}

@@ -5,7 +5,8 @@ use Rattle.ir_types.specs.Limits.{IsWithinLimits}
 use Rattle.ir_types.specs.Program.{Program}
 use Rattle.ir_types.specs.WellFormed.{size, item_limit}
 use Rattle.ir_types.specs.declared.syntax.Function.{Function}
-use Rattle.applied.specs.Motion.{Edge, Move}
+use Rattle.point_graph.specs.Graph.{Edge}
+use Rattle.applied.specs.Motion.{Move}
 use Rattle.applied.specs.Applied.{Plan, IsPlan}
 use Rattle.applied.specs.Built.{applied_function}
 

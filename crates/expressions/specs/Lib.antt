@@ -1,0 +1,4 @@
+pub mod Events
+pub mod Expressions
+pub mod Kept
+pub mod Tables
