@@ -1,0 +1,7 @@
+mod EventSteps
+mod FirstSeen
+mod Operands
+mod Same
+mod Sound
+mod Tracks
+mod WalkSteps

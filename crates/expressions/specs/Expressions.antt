@@ -1,5 +1,5 @@
 -- What stands at a point, and the expression that occurs there.
-use Rattle.std.specs.Prelude.{◌≡◌, ℕ, ◌+◌, ◌&&◌, not, Bool, true, false, ◌==◌, List, [], ◌∷◌, Option, Some, None, IsSome, take, drop, slice_get, if◌then◌else◌, option_and_then}
+use Rattle.std.specs.Prelude.{◌≡◌, ℕ, ◌+◌, ◌&&◌, not, Bool, true, false, List, [], ◌∷◌, Option, Some, None, IsSome, take, drop, slice_get, if◌then◌else◌, option_and_then}
 use Rattle.std.specs.List.{list_any}
 use Rattle.std.specs.Option.{option_map, option_map_or}
 use Rattle.mc_num.specs.Value.{traps_at}
@@ -9,6 +9,7 @@ use Rattle.ir_types.specs.declared.syntax.Operand.{Operand}
 use Rattle.ir_types.specs.declared.syntax.Operand.TheVariants as operands
 use Rattle.ir_types.specs.declared.syntax.Variable.{Variable}
 use Rattle.ir_types.specs.declared.syntax.Variable.TheVariants.{Local, Global}
+use Rattle.ir_types.specs.contracts.syntax.VariablePartialEq.TheImpl.{eq-value}
 use Rattle.ir_types.specs.declared.syntax.Kind.{Kind}
 use Rattle.ir_types.specs.declared.syntax.Kind.TheVariants.{Load, Store, Compute, Call}
 use Rattle.ir_types.specs.declared.syntax.Instr.{Instr}
@@ -44,9 +45,7 @@ instr_at f b k = option_and_then (λ block. slice_get block.instrs k) (slice_get
 -- ---- what may change a variable
 
 abbrev pub is_same_variable : Variable → Variable → Bool
-is_same_variable (Local v) (Local w) = v == w
-is_same_variable (Global v) (Global w) = v == w
-is_same_variable _ _ = false
+is_same_variable = eq-value.it
 
 abbrev pub is_global : Variable → Bool
 is_global (Local _) = false
@@ -58,7 +57,7 @@ is_defined m callee = option_map_or (λ f. not (is_nil f.blocks)) (slice_get m.f
 
 -- a store to the variable changes it, and a call of a defined function may change a global
 abbrev pub changes : Program → Variable → Kind → Bool
-changes m v (Store _ w) = is_same_variable v w
+changes m v (Store _ w) = is_same_variable w v
 changes m v (Call callee _) = is_global v && is_defined m callee
 changes m v _ = false
 

@@ -63,14 +63,14 @@ defined_same (Some f) = defined_blocks f.blocks
 
 changes_is : (m : Program) (x : Variable) (kind : Kind) → changes m x kind ≡ true → ChangesVariable m kind x
 changes_is m x (Load y) e = absurd cc
-changes_is m x (Store operand y) e = is_variable x y e
+changes_is m x (Store operand y) e = sym (is_variable y x e)
 changes_is m x (Compute op operands) e = absurd cc
 changes_is m (Local v) (Call callee operands) e = absurd cc
 changes_is m (Global g) (Call callee operands) e = sym (defined_same (slice_get m.functions callee)) ∙ e
 
 is_changes : (m : Program) (x : Variable) (kind : Kind) → ChangesVariable m kind x → changes m x kind ≡ true
 is_changes m x (Load y) c = absurd c
-is_changes m x (Store operand y) c = variable_is x y c
+is_changes m x (Store operand y) c = variable_is y x (sym c)
 is_changes m x (Compute op operands) c = absurd c
 is_changes m (Local v) (Call callee operands) c = absurd c
 is_changes m (Global g) (Call callee operands) c = defined_same (slice_get m.functions callee) ∙ c
