@@ -1,0 +1,61 @@
+use crate::seen::{Seen, seen_at};
+use crate::sources::{ARM, BOTH, COLD, GLOBAL, LOOP, MIXED};
+use std::alloc::Global;
+use std::process::Abort;
+use std::test::Fail;
+
+fn has_counts(rt: &impl Abort, found: &Seen, counts: (usize, usize, usize, u32)) {
+    assert_eq!(rt;
+        (found.blocks, found.points, found.edges, found.exprs),
+        counts
+    );
+}
+
+/// A function has so many reached blocks, points, edges and expressions, and these traps and events.
+fn has(
+    rt: &impl Abort,
+    alloc: Global,
+    source: &[u8],
+    number: usize,
+    counts: (usize, usize, usize, u32),
+    traps: &[u8],
+    events: &[u8],
+) -> Result<(), Fail> {
+    let found = seen_at(alloc, source, number)?.ok_or("no function")?;
+    has_counts(rt, &found, counts);
+    assert_eq!(rt; found.traps.as_slice(), traps);
+    assert_eq!(rt; found.events.as_slice(), events);
+    Ok(())
+}
+
+#[test]
+fn branches(rt: HostRuntime) -> Result<(), Fail> {
+    let alloc = rt.alloc();
+    let arm = b"..BKB..O.............B..BKBK......O.......OB";
+    has(&rt, alloc, ARM, 1, (4, 22, 22, 2), b"..", arm)?;
+    has(&rt, alloc, COLD, 0, (3, 13, 13, 1), b".", b"...O....O...B")?;
+    has(
+        &rt,
+        alloc,
+        BOTH,
+        1,
+        (3, 15, 14, 2),
+        b"..",
+        b"..BK.O....B...B..BK.....OB..OB",
+    )
+}
+
+#[test]
+fn a_loop(rt: HostRuntime) -> Result<(), Fail> {
+    let events =
+        b".....O...............K..B.........O...........K..B...............O........B....................OK..B";
+    has(&rt, rt.alloc(), LOOP, 0, (6, 25, 26, 4), b"....", events)
+}
+
+#[test]
+fn globals_and_traps(rt: HostRuntime) -> Result<(), Fail> {
+    let alloc = rt.alloc();
+    has(&rt, alloc, GLOBAL, 1, (1, 11, 10, 1), b".", b"...OK..OBOB")?;
+    let mixed = b"...O.K..BB..B....OK..BB..B.......OBB..B........OB..B........BO..B";
+    has(&rt, alloc, MIXED, 0, (2, 13, 13, 5), b"...tt", mixed)
+}
