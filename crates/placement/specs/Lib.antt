@@ -1,1 +1,4 @@
+pub mod Costs
+pub mod Marked
+pub mod Marking
 pub mod Placements

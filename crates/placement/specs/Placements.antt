@@ -1,6 +1,6 @@
 -- Placements of an expression, over all paths of the point graph.
 -- `Is v event` says what point v is to the expression.
-use Rattle.std.specs.Prelude.{◌≡◌, ◌<◌, ◌≢◌, ◌⊎◌, ℕ, List, All, Contains, map}
+use Rattle.std.specs.Prelude.{◌<◌, ◌⊎◌, ℕ, List, All, Contains, map}
 use Rattle.point_graph.specs.declared.graph.Edge.{Edge}
 use Rattle.expressions.specs.declared.syntax.Event.{Event}
 use Rattle.expressions.specs.declared.syntax.Event.TheVariants as events
