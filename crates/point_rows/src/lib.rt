@@ -1,6 +1,8 @@
-//! The points, the edges, the expressions and the events of small modules.
+//! The points, the edges, the expressions, the events and placements of small modules.
 #![tactic(auto)]
 
+#[cfg(test)]
+mod placing;
 #[cfg(test)]
 mod seen;
 #[cfg(test)]

@@ -63,7 +63,7 @@ fn events_of(
 }
 
 /// The function of this number, if there is one.
-fn function_at<'m, 'a>(module: &'m Module<'a>, number: usize) -> Option<&'m Function<'a>>
+pub(crate) fn function_at<'m, 'a>(module: &'m Module<'a>, number: usize) -> Option<&'m Function<'a>>
     requires { All IsWithinLimits «module».now.functions }
     ensures rules { IfSome result (λ f. IsFunctionIn «module».now f.now) }
     ensures limits { IfSome result (λ f. IsWithinLimits f.now) }

@@ -1,3 +1,4 @@
+use crate::placing::placed_at;
 use crate::seen::{Seen, seen_at};
 use crate::sources::{ARM, BOTH, COLD, GLOBAL, LOOP, MIXED};
 use std::alloc::Global;
@@ -58,4 +59,58 @@ fn globals_and_traps(rt: HostRuntime) -> Result<(), Fail> {
     has(&rt, alloc, GLOBAL, 1, (1, 11, 10, 1), b".", b"...OK..OBOB")?;
     let mixed = b"...O.K..BB..B....OK..BB..B.......OBB..B........OB..B........BO..B";
     has(&rt, alloc, MIXED, 0, (2, 13, 13, 5), b"...tt", mixed)
+}
+
+/// A placement has this first invalid occurrence, and its temporary is live at these points.
+fn is_placed(
+    rt: &impl Abort,
+    alloc: Global,
+    source: &[u8],
+    number: usize,
+    e: u32,
+    lists: (&[u32], &[u32]),
+    invalid: Option<u32>,
+    live: &[u8],
+) -> Result<(), Fail> {
+    let (inserted, kept) = lists;
+    let found = placed_at(alloc, source, number, e, inserted, kept)?.ok_or("no expression")?;
+    assert!(rt; found.invalid == invalid);
+    assert_eq!(rt; found.live.as_slice(), live);
+    Ok(())
+}
+
+#[test]
+fn placements(rt: HostRuntime) -> Result<(), Fail> {
+    let alloc = rt.alloc();
+    is_placed(
+        &rt,
+        alloc,
+        ARM,
+        1,
+        1,
+        (&[17], &[12]),
+        None,
+        b".............LL..LLLL.",
+    )?;
+    is_placed(
+        &rt,
+        alloc,
+        ARM,
+        1,
+        1,
+        (&[], &[12]),
+        Some(20),
+        b"LLLLLLLLL....LLLLLLLL.",
+    )?;
+    is_placed(&rt, alloc, COLD, 0, 0, (&[], &[3]), None, b"....LLLLL....")?;
+    is_placed(
+        &rt,
+        alloc,
+        COLD,
+        0,
+        0,
+        (&[], &[8]),
+        Some(3),
+        b"LLLL.........",
+    )
 }
