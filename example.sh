@@ -1,5 +1,6 @@
 #!/bin/sh
-# Proves and builds mcpre, prints a shipped module, and runs another one. It works in the folder example/ beside it.
+# Proves and builds mcpre, prints a shipped module, runs another one, and optimises a third. It works in the folder
+# example/ beside it.
 set -u
 
 fail() {
@@ -19,14 +20,19 @@ output=example/o.ll
 expected=example/expected.ll
 running=example/upper.ll
 profile=example/upper.prof
+plain=example/square.ll
+counts=example/square.prof
+optimised=example/square.opt.ll
+certificate=example/square.json
 
 cd "$(dirname "$0")" || fail "the folder of this script can't be entered"
 command -v rt >/dev/null || fail "the command rt of the toolchain is not on the PATH"
 
 step mkdir -p example
-step rm -f "$output" "$expected" "$profile"
+step rm -f "$output" "$expected" "$profile" "$counts" "$optimised" "$certificate"
 step cp crates/mcpre/data/a.ll "$input"
 step cp crates/mcpre/data/upper.ll "$running"
+step cp crates/mcpre/data/square.ll "$plain"
 
 # The toolchain builds a program only once all is proved, and runs it at once; the first time takes minutes.
 step cd crates/mcpre
@@ -77,3 +83,53 @@ END
 step cmp "$profile" "$expected"
 [ "$shown" = "HELLO, WORLD." ] || fail "the run showed something else"
 echo "the example ran as it should"
+
+# The third module computes a sum three times. It runs once for its profile; the optimised module computes the sum once,
+# and does the same.
+echo "+ echo AC | $program run 1000 $plain $counts"
+shown=$(echo AC | "$program" run 1000 "$plain" "$counts" 2>&1) || fail "the run failed"
+echo "$shown"
+step "$program" opt "$plain" "$counts" "$optimised" "$certificate"
+step cat "$optimised"
+step cat "$certificate"
+echo
+
+cat >"$expected" <<'END' || fail "$expected can't be written"
+define i32 @main() {
+0:
+  %1 = alloca i32
+  %2 = alloca i32
+  %3 = alloca i32
+  %pre.0 = alloca i32
+  store i32 0, ptr %1
+  %4 = call i32 @getchar()
+  store i32 %4, ptr %2
+  %5 = call i32 @getchar()
+  store i32 %5, ptr %3
+  %6 = load i32, ptr %2
+  %7 = load i32, ptr %3
+  %8 = add i32 %6, %7
+  store i32 %8, ptr %pre.0
+  %9 = sdiv i32 %8, 2
+  %10 = call i32 @putchar(i32 %9)
+  %11 = call i32 @putchar(i32 10)
+  %12 = load i32, ptr %2
+  %13 = load i32, ptr %3
+  %14 = load i32, ptr %pre.0
+  %15 = load i32, ptr %2
+  %16 = load i32, ptr %3
+  %17 = load i32, ptr %pre.0
+  %18 = mul i32 %14, %17
+  ret i32 %18
+}
+
+declare i32 @getchar()
+
+declare i32 @putchar(i32)
+END
+step cmp "$optimised" "$expected"
+echo "+ echo AC | $program run 1000 $optimised -"
+again=$(echo AC | "$program" run 1000 "$optimised" - 2>&1) || fail "the run of the optimised module failed"
+echo "$again"
+[ "$again" = "$shown" ] || fail "the optimised module showed something else"
+echo "the example was optimised as it should"

@@ -73,7 +73,7 @@ computing_changes m op operands (ParamArg p ∷ args) c = ⊎_elim (λ o. o) (co
 computing_changes m op operands (VarArg x ∷ args) c = ⊎_elim (λ o. o) (computing_changes m op operands args) c
 
 -- an occurrence doesn't kill
-occurrence_keeps : (m : Program) (function : Function) (e : Expr) (b k : ℕ) → OccursIn m function e b k → ¬ KillsIn m function e b k
+pub occurrence_keeps : (m : Program) (function : Function) (e : Expr) (b k : ℕ) → OccursIn m function e b k → ¬ KillsIn m function e b k
 occurrence_keeps m function e b k occurs kills =
     let blocks : occurs.block ≡ kills.block = let both : Some occurs.block ≡ Some kills.block = sym occurs.block_there ∙ kills.block_there in cc in
     let instrs : occurs.instr ≡ kills.instr = let both : Some occurs.instr ≡ Some kills.instr = sym occurs.here ∙ ap (λ x. slice_get x.instrs k) blocks ∙ kills.here in cc in

@@ -4,3 +4,4 @@ pub mod Laws
 pub mod Levels
 pub mod Meeting
 pub mod Marks
+pub mod Walks

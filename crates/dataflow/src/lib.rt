@@ -4,6 +4,7 @@
 mod flag;
 mod graph;
 mod lattice;
+mod order;
 mod solution;
 mod worklist;
 

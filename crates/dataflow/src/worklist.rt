@@ -1,11 +1,13 @@
-//! Lets entries and exits fall to a fixed point, by a stack of the nodes that are pending (Kildall's method).
+//! Lets entries and exits fall to a fixed point, by a stack of the nodes that are pending (Kildall's method). It begins in
+//! reverse postorder.
 
-ghost use Rattle.std.specs.Prelude.{◌≡◌, ℕ, ◌<◌, ◌≤◌, ◌+◌, ◌*◌, ◌++◌, [], ◌∷◌, ◌⊎◌, All, Contains, IfOk, OnOk, length, slice_index_or, slice_set, sum_by, vec_len};
+ghost use Rattle.std.specs.Prelude.{◌≡◌, ℕ, ◌<◌, ◌≤◌, ◌+◌, ◌*◌, ◌++◌, [], ◌∷◌, ◌⊎◌, All, OnOk, length, slice_index_or, slice_set, sum_by, vec_len};
 ghost use Rattle.dataflow.specs.FixedPoints.{ArcsWithin, IsGreatestFixedPoint};
 ghost use Rattle.dataflow.specs.Meeting.{MetEnds};
 
 use crate::graph::{Digraph, ends_by_node};
 use crate::lattice::{Meet, Transfer};
+use crate::order::postorder;
 use std::alloc::{AllocError, Global};
 
 /// Meets the entry of a node with an exit, and notes the node where this changed the entry.
@@ -48,18 +50,6 @@ fn meet_ends<V: Meet>(
     Ok(())
 }
 
-/// The nodes below `nodes`, each once, the first on top.
-fn all_nodes(alloc: Global, nodes: u32) -> Result<Vec<u32>, AllocError>
-    ensures each { IfOk result (λ list. (n : ℕ) → n < nodes → Contains list.items n) }
-    ensures below { IfOk result (λ list. All (λ n. n < nodes) list.items) }
-{
-    let mut list = Vec::new(alloc);
-    for node in 0..nodes {
-        list.push(nodes - 1 - node)?;
-    }
-    Ok(list)
-}
-
 /// Lets values leave the pending nodes until none is pending.
 pub(crate) fn settle<V: Meet, T: Transfer<V>>(
     alloc: Global,
@@ -81,7 +71,7 @@ pub(crate) fn settle<V: Meet, T: Transfer<V>>(
         (λ n. slice_index_or entry.old n d) (λ n. slice_index_or entry.new n d) (λ n. slice_index_or exit.new n d)) }
 {
     let ends = ends_by_node(alloc, graph.nodes, &graph.arcs)?;
-    let mut pending = all_nodes(alloc, graph.nodes)?;
+    let mut pending = postorder(alloc, graph)?;
     while let Some(node) = pending.pop() {
         let left = &mut exit[node as usize];
         transfer.leave(node, &entry[node as usize], left);

@@ -83,6 +83,13 @@ impl<'m, 'a> Table<'m, 'a> {
         self.module
     }
 
+    /// For each point the number of the expression that occurs there. No memory.
+    pub fn occurring(&self) -> &[Option<u32>]
+        ensures { result.now ≡ self.now.occurring }
+    {
+        self.occurring.as_slice()
+    }
+
     /// Whether the expression of this number occurs at the point of this number. No memory.
     pub fn occurs(&self, e: u32, point: usize) -> bool
         requires { point < length self.now.occurring }

@@ -6,36 +6,10 @@ use Rattle.std.proofs.lemmas.List.Elements.{recursion_from_All}
 use Rattle.flow_net.specs.declared.Arc.{Arc}
 use Rattle.flow_net.specs.declared.Net.{Net}
 use Rattle.flow_net.specs.declared.Flow.{Flow}
-use Rattle.flow_net.specs.declared.levels.Distances.{Distances}
-use Rattle.flow_net.specs.Network.{IsValid, IsWithin, IsBalanced, IsMaximum, IsSide, IsLeastSide, IsLatestSide, IsArcOf, loads, enters, flow_value, capacity_into, ReachesSink, ResidualArc}
+use Rattle.flow_net.specs.Network.{IsValid, IsWithin, IsBalanced, IsMaximum, IsSide, IsLeastSide, IsLatestSide, IsArcOf, loads, enters, flow_value, capacity_into, ReachesSink, ResidualArc, IsSinkSet}
 use Rattle.flow_net.specs.Laws.{AreFallingRanks}
-use Rattle.flow_net.specs.Levels.{AreDistances, IsSupported, is_reached, distance_of}
 use Rattle.flow_net.proofs.Sums.{sum_by-firsts}
 use Rattle.flow_net.proofs.Duality.{Flows, IsShut, room_where, weak_duality, shut_from_meets, meets_from_shut, shut_walk, shut_from_closed}
-
--- a reached node has a walk as long as its distance
-walk_down : (ls : List (Arc × ℕ)) (found : Distances) → ((v : ℕ) → is_reached found v ≡ true → IsSupported ls found v) → (n v : ℕ) → is_reached found v ≡ true → distance_of found v ≡ n → ReachesSink ls n v
-walk_down ls found supported zero v h far = elim (supported v h) [
-  | inl sink ↦ sink.0
-  | inr down ↦ (let more : distance_of found v ≡ distance_of found down.0 + 1 = down.3 in absurd (omega arith))
-]
-walk_down ls found supported (suc n) v h far = elim (supported v h) [
-  | inl sink ↦ (let none : distance_of found v ≡ 0 = sink.1 in absurd (omega arith))
-  | inr down ↦ (let more : distance_of found v ≡ distance_of found down.0 + 1 = down.3 in
-      (down.0, down.1, walk_down ls found supported n down.0 down.2 (omega arith)))
-]
-
-pub walk_from_reached : (nodes : ℕ) (ls : List (Arc × ℕ)) (found : Distances) → AreDistances nodes ls found → (v : ℕ) → is_reached found v ≡ true → ReachesSink ls (distance_of found v) v
-walk_from_reached nodes ls found d v h = walk_down ls found d.sound.supported (distance_of found v) v h refl
-
--- each walk starts at a reached node, and is at least as long as its distance
-pub reached_from_walk : (nodes : ℕ) (ls : List (Arc × ℕ)) (found : Distances) → AreDistances nodes ls found → (n v : ℕ) → ReachesSink ls n v → (is_reached found v ≡ true) × (distance_of found v ≤ n)
-reached_from_walk nodes ls found d zero v walk =
-    (ap (is_reached found) walk ∙ d.sound.sink.0, omega (arith, ap (distance_of found) walk, d.sound.sink.1))
-reached_from_walk nodes ls found d (suc n) v walk =
-    let next : (is_reached found walk.0 ≡ true) × (distance_of found walk.0 ≤ n) = reached_from_walk nodes ls found d n walk.0 walk.2 in
-    let here : (is_reached found v ≡ true) × (distance_of found v ≤ distance_of found walk.0 + 1) = d.closed v walk.0 walk.1 next.0 in
-    (here.0, omega (arith, here.1, next.1))
 
 -- ---- a network and its flow, as loads
 arcs_of : (nodes : ℕ) (arcs : List Arc) (xs : List ℕ) → length xs ≡ length arcs → AllByRecursion (IsArcOf nodes) arcs → AllByRecursion (λ (l : Arc × ℕ). IsArcOf nodes l.0) (zip arcs xs)
@@ -67,36 +41,46 @@ pub in_meeting_side : (net : Net) (flow : Flow) → IsValid net → IsWithin net
 in_meeting_side net flow v w b side s meets n node walk =
     shut_walk side (loads net flow) (shut_from_meets net.nodes (loads net flow) (flows net flow v w b) side s (omega (arith, capacity_of_loads net flow w side))) s.0 n node walk
 
-module _ (net : Net) (flow : Flow) (v : IsValid net) (w : IsWithin net flow) (b : IsBalanced net flow) (found : Distances) (d : AreDistances net.nodes (loads net flow) found) where
-  -- where the source is not reached, the reached nodes are a side, whose capacity is the value
-  pub reached_meets : is_reached found 0 ≡ false → IsSide (is_reached found) × (flow_value net flow ≡ capacity_into net (is_reached found))
-  reached_meets unreached =
-      let side : IsSide (is_reached found) = (d.sound.sink.0, unreached) in
-      let shut : AllByRecursion (IsShut (is_reached found)) (loads net flow) =
-      shut_from_closed (is_reached found) (loads net flow) (flows net flow v w b).within (λ from to arc h. (d.closed from to arc h).0) in
-      (side, meets_from_shut net.nodes (loads net flow) (flows net flow v w b) (is_reached found) side shut ∙ capacity_of_loads net flow w (is_reached found))
+module _ (net : Net) (flow : Flow) (v : IsValid net) (w : IsWithin net flow) (b : IsBalanced net flow) (side : ℕ → Bool) (t : IsSinkSet (loads net flow) side) where
+  -- where the source does not reach the sink, the nodes that do are a side, whose capacity is the value
+  set_meets : side 0 ≡ false → IsSide side × (flow_value net flow ≡ capacity_into net side)
+  set_meets away =
+      let s : IsSide side = ((t 1).1 (0, refl), away) in
+      let shut : AllByRecursion (IsShut side) (loads net flow) =
+      shut_from_closed side (loads net flow) (flows net flow v w b).within
+      (λ from to arc h. (let walk = (t to).0 h in (t from).1 (suc walk.0, (to, arc, walk.1)))) in
+      (s, meets_from_shut net.nodes (loads net flow) (flows net flow v w b) side s shut ∙ capacity_of_loads net flow w side)
 
-  -- a maximum flow has no residual way from the source to the sink
-  pub source_unreached : IsMaximum net flow → is_reached found 0 ≡ false
-  source_unreached m = elim (cases_Bool (is_reached found 0)) [
+  pub no_way_maximum : side 0 ≡ false → IsMaximum net flow
+  no_way_maximum away = record { within = w; balanced = b; meets = (side, (set_meets away).0, (set_meets away).1) }
+
+  source_outside : IsMaximum net flow → side 0 ≡ false
+  source_outside m = elim (cases_Bool (side 0)) [
     | inl there ↦
-        (let in_side : m.meets.0 0 ≡ true = in_meeting_side net flow v w b m.meets.0 m.meets.1 (omega (arith, m.meets.2)) (distance_of found 0) 0 (walk_from_reached net.nodes (loads net flow) found d 0 there) in
+        (let walk = (t 0).0 there in
+        let in_side : m.meets.0 0 ≡ true = in_meeting_side net flow v w b m.meets.0 m.meets.1 (omega (arith, m.meets.2)) walk.0 0 walk.1 in
         absurd (true≢false (sym in_side ∙ m.meets.1.1)))
     | inr away ↦ away
   ]
 
-  pub reached_least : is_reached found 0 ≡ false → IsLeastSide net (is_reached found)
-  reached_least unreached = (
-    (reached_meets unreached).0,
-    λ other s. omega (arith, (reached_meets unreached).1, value_below net flow v w b other s),
+  set_least : side 0 ≡ false → IsLeastSide net side
+  set_least away = (
+    (set_meets away).0,
+    λ other s. omega (arith, (set_meets away).1, value_below net flow v w b other s),
   )
 
-  pub reached_latest : is_reached found 0 ≡ false → IsLatestSide net (is_reached found)
-  reached_latest unreached node inside = (
-    (λ h least l. in_meeting_side net flow v w b least l.0 (omega (arith, (reached_meets unreached).1, l.1 (is_reached found) (reached_meets unreached).0)) (distance_of found node) node
-        (walk_from_reached net.nodes (loads net flow) found d node h)),
-    λ all. all (is_reached found) (reached_least unreached),
-  )
+  pub set_latest : IsMaximum net flow → IsLeastSide net side × IsLatestSide net side
+  set_latest m =
+      let away : side 0 ≡ false = source_outside m in
+      let meets : IsSide side × (flow_value net flow ≡ capacity_into net side) = set_meets away in (
+        set_least away,
+        (λ node inside. (
+          (λ h least l.
+              (let walk = (t node).0 h in
+              in_meeting_side net flow v w b least l.0 (omega (arith, meets.1, l.1 side meets.0)) walk.0 node walk.1)),
+          (λ all. all side (set_least away)),
+        )),
+      )
 
 -- ranks that fall to the sink give walks
 walk_from_ranks : (ls : List (Arc × ℕ)) (side : ℕ → Bool) (rank : ℕ → ℕ) →

@@ -1,10 +1,10 @@
 -- How the search keeps what it has found, one node after another.
-use Rattle.std.proofs.Common.{◌≡◌, ◌≢◌, ℕ, ◌+◌, ◌<◌, ◌≤◌, Bool, true, false, not, ◌⊎◌, List, [], length, refl, ap, arith, sym, ◌∙◌, inl, inr, get_or, subst}
+use Rattle.std.proofs.Common.{◌≡◌, ◌≢◌, ℕ, zero, suc, ◌+◌, ◌<◌, ◌≤◌, Bool, true, false, not, ◌⊎◌, List, [], length, refl, ap, arith, sym, ◌∙◌, inl, inr, get_or, take, subst}
 use Rattle.std.specs.Prelude.{IsTrue, ◌↔◌, Contains, Vec}
 use Rattle.std.specs.Option.{option_map_or}
 use Rattle.std.specs.declared.alloc.Global.{Global}
 use Rattle.std.proofs.lemmas.Bool.{cases_eq, cases_Bool, cases_lt, true≢false}
-use Rattle.std.proofs.lemmas.List.{get_or_default, get_or_past}
+use Rattle.std.proofs.lemmas.List.{get_or_default, get_or_past, get_or-take, length-take-le}
 use Rattle.std.proofs.lemmas.Grind.{get_or_default_zero}
 use Rattle.std.proofs.lemmas.Option.{slice_get_read}
 use Rattle.std.proofs.lemmas.List.Sums.{count_by-le-length}
@@ -13,10 +13,10 @@ use Rattle.flow_net.specs.declared.Net.{Net}
 use Rattle.flow_net.specs.declared.Flow.{Flow}
 use Rattle.flow_net.specs.declared.incidence.Incidence.{Incidence}
 use Rattle.flow_net.specs.declared.levels.Distances.{Distances}
-use Rattle.flow_net.specs.Network.{ResidualArc, LetsMore, IsWithin, loads}
+use Rattle.flow_net.specs.Network.{ResidualArc, ReachesSink, LetsMore, IsWithin, loads}
 use Rattle.flow_net.specs.Incidence.{IsIncidenceOf, arcs_in}
 use Rattle.flow_net.proofs.Loads.{loads_len, load_at}
-use Rattle.flow_net.specs.Levels.{AreFound, AreDistances, AreOrdered, Visiting, Reaches, Attempts, Answered, Keeps, HasNodes, IsSupported, is_reached, distance_of, order_of}
+use Rattle.flow_net.specs.Levels.{AreFound, AreDistances, AreOrdered, IsNearestFirst, Visiting, Reaches, Attempts, Answered, Keeps, HasNodes, IsSupported, is_reached, distance_of, order_of}
 
 module _ (node distance : ℕ) (old new : Distances) (r : Reaches node distance old new) where
   other : (v : ℕ) → is_reached old v ≡ true → v ≢ node
@@ -100,6 +100,14 @@ module _ (node distance : ℕ) (old new : Distances) (r : Reaches node distance 
         low = λ i h. elim (at i h) [
           | inl last ↦ omega (arith, last.0, last.2)
           | inr kept ↦ omega (arith, kept.2, o.low i kept.0)
+        ];
+        once = λ i j less h same. elim (at j h) [
+          | inl last ↦
+              (let early : i < old.count = omega (arith, last.0) in
+              other (order_of old i) (o.inside i early) (sym (r.order i early) ∙ same ∙ last.1))
+          | inr kept ↦
+              (let early : i < old.count = omega (arith, kept.0) in
+              o.once i j less kept.0 (sym (r.order i early) ∙ same ∙ kept.1))
         ];
         rising = λ i j le h. elim (at j h) [
           | inl last ↦ elim (at i (omega arith)) [
@@ -279,22 +287,74 @@ visiting_first nodes ls old new places none away r =
         inside = λ i h. ap (λ k. is_reached new (order_of new k)) (only i h) ∙ ap (is_reached new) first ∙ r.now.0;
         met = λ v h. (0, omega arith, first ∙ sym (sink v h));
         low = λ i h. omega (arith, start i h);
+        once = λ i j less h same. absurd (omega arith);
         rising = λ i j le h. omega (arith, start i (omega arith), start j h);
       };
       near = λ i j from hi hj. omega (arith, start i hi, start j hj);
       closed = λ i u before. absurd (omega arith);
     }
 
--- the search is through with all nodes
+-- a reached node has a walk as long as its distance
+walk_down : (ls : List (Arc × ℕ)) (found : Distances) → ((v : ℕ) → is_reached found v ≡ true → IsSupported ls found v) → (n v : ℕ) → is_reached found v ≡ true → distance_of found v ≡ n → ReachesSink ls n v
+walk_down ls found supported zero v h far = elim (supported v h) [
+  | inl sink ↦ sink.0
+  | inr down ↦ (let more : distance_of found v ≡ distance_of found down.0 + 1 = down.3 in absurd (omega arith))
+]
+walk_down ls found supported (suc n) v h far = elim (supported v h) [
+  | inl sink ↦ (let none : distance_of found v ≡ 0 = sink.1 in absurd (omega arith))
+  | inr down ↦ (let more : distance_of found v ≡ distance_of found down.0 + 1 = down.3 in
+      (down.0, down.1, walk_down ls found supported n down.0 down.2 (omega arith)))
+]
+
+-- the search is through with all nodes: no residual arc shortens a way
+closed_end : (nodes : ℕ) (ls : List (Arc × ℕ)) (place : ℕ) (found : Distances) → found.count ≤ place → Visiting nodes ls place found →
+    (u v : ℕ) → ResidualArc ls u v → is_reached found v ≡ true → (is_reached found u ≡ true) × (distance_of found u ≤ distance_of found v + 1)
+closed_end nodes ls place found all s u v arc h =
+    let m = s.ordered.met v h in
+    let there : (is_reached found u ≡ true) × (distance_of found u ≤ distance_of found (order_of found m.0) + 1) =
+    s.closed m.0 u (omega (arith, m.1)) m.1 (subst (λ w. ResidualArc ls u w) (sym m.2) arc) in
+    (there.0, omega (arith, there.1, ap (distance_of found) m.2))
+
+-- each walk starts at a reached node, and is at least as long as its distance
+reached_from_walk : (nodes : ℕ) (ls : List (Arc × ℕ)) (place : ℕ) (found : Distances) → found.count ≤ place → Visiting nodes ls place found →
+    (n v : ℕ) → ReachesSink ls n v → (is_reached found v ≡ true) × (distance_of found v ≤ n)
+reached_from_walk nodes ls place found all s zero v walk =
+    (ap (is_reached found) walk ∙ s.sound.sink.0, omega (arith, ap (distance_of found) walk, s.sound.sink.1))
+reached_from_walk nodes ls place found all s (suc n) v walk =
+    let next : (is_reached found walk.0 ≡ true) × (distance_of found walk.0 ≤ n) = reached_from_walk nodes ls place found all s n walk.0 walk.2 in
+    let here : (is_reached found v ≡ true) × (distance_of found v ≤ distance_of found walk.0 + 1) = closed_end nodes ls place found all s v walk.0 walk.1 next.0 in
+    (here.0, omega (arith, here.1, next.1))
+
 pub distances_end : (nodes : ℕ) (ls : List (Arc × ℕ)) (place : ℕ) (found : Distances) → found.count ≤ place → Visiting nodes ls place found → AreDistances nodes ls found
 distances_end nodes ls place found all s = record {
-  sound = s.sound;
-  closed = λ u v arc h.
-      (let m = s.ordered.met v h in
-      let there : (is_reached found u ≡ true) × (distance_of found u ≤ distance_of found (order_of found m.0) + 1) =
-      s.closed m.0 u (omega (arith, m.1)) m.1 (subst (λ w. ResidualArc ls u w) (sym m.2) arc) in
-      (there.0, omega (arith, there.1, ap (distance_of found) m.2)));
+  places = s.sound.places;
+  walk = λ v h. walk_down ls found s.sound.supported (distance_of found v) v h refl;
+  fewest = reached_from_walk nodes ls place found all s;
+  others = s.sound.others;
 }
+
+-- so the order has exactly the nodes that are reached
+pub nearest_first : (nodes : ℕ) (ls : List (Arc × ℕ)) (place : ℕ) (found : Distances) → Visiting nodes ls place found → IsNearestFirst found
+nearest_first nodes ls place found s =
+    let o = s.ordered in
+    let long : found.count ≤ length found.order.items = omega (arith, o.room, s.sound.places.order_len) in
+    let len : length (take found.count found.order.items) ≡ found.count = length-take-le found.count found.order.items long in
+    let at : (i d : ℕ) → i < found.count → get_or (take found.count found.order.items) i d ≡ order_of found i =
+    (λ i d h. get_or-take found.count found.order.items i d h ∙ get_or_default found.order.items i d 0 (omega arith)) in
+    record {
+      len = len;
+      exact = λ v. (
+        (λ h. let inside : h.0 < found.count = omega (arith, h.1, len) in
+            ap (is_reached found) (sym h.2 ∙ at h.0 v inside) ∙ o.inside h.0 inside),
+        (λ h. let m = o.met v h in (m.0, omega (arith, m.1, len), at m.0 v m.1 ∙ m.2)),
+      );
+      nearest = λ i j d less h.
+          (let last : j < found.count = omega (arith, h, len) in
+          let first : i < found.count = omega arith in (
+            (λ same. o.once i j less last (sym (at i d first) ∙ same ∙ at j d last)),
+            omega (arith, ap (distance_of found) (at i d first), ap (distance_of found) (at j d last), o.rising i j (omega arith) last),
+          ));
+    }
 
 pub distance_small : (nodes : ℕ) (ls : List (Arc × ℕ)) (place : ℕ) (found : Distances) → 2 ≤ nodes → Visiting nodes ls place found → (v : ℕ) → distance_of found v < nodes
 distance_small nodes ls place found two s v = elim (cases_Bool (is_reached found v)) [

@@ -1,7 +1,7 @@
-use Rattle.std.specs.Prelude.{◌≡◌, ◌≢◌, ℕ, ◌+◌, ◌<◌, ◌≤◌, Bool, true, false, not, List, ◌⊎◌, length, count_by, slice_index_or}
+use Rattle.std.specs.Prelude.{◌≡◌, ◌≢◌, ℕ, ◌+◌, ◌<◌, ◌≤◌, Bool, true, false, not, List, ◌⊎◌, ◌↔◌, length, count_by, slice_index_or, take, Contains, AllPairs}
 use Rattle.flow_net.specs.declared.Arc.{Arc}
 use Rattle.flow_net.specs.declared.levels.Distances.{Distances}
-use Rattle.flow_net.specs.Network.{ResidualArc, LetsMore}
+use Rattle.flow_net.specs.Network.{ResidualArc, ReachesSink, LetsMore}
 
 -- whether the search reached a node
 abbrev pub is_reached : Distances → ℕ → Bool
@@ -37,17 +37,30 @@ pub record AreFound (nodes : ℕ) (ls : List (Arc × ℕ)) (found : Distances) :
   pub supported : (v : ℕ) → is_reached found v ≡ true → IsSupported ls found v
   pub others : (v : ℕ) → is_reached found v ≡ false → distance_of found v ≡ 0
 
--- each reached node has a way to the sink by nearer nodes, and no residual arc shortens it
+-- exactly the nodes that reach the sink by residual arcs are reached, each at the fewest such arcs
 pub record AreDistances (nodes : ℕ) (ls : List (Arc × ℕ)) (found : Distances) : Type 0 where
-  pub sound : AreFound nodes ls found
-  pub closed : (u v : ℕ) → ResidualArc ls u v → is_reached found v ≡ true → (is_reached found u ≡ true) × (distance_of found u ≤ distance_of found v + 1)
+  pub places : HasNodes nodes found
+  pub walk : (v : ℕ) → is_reached found v ≡ true → ReachesSink ls (distance_of found v) v
+  pub fewest : (n v : ℕ) → ReachesSink ls n v → (is_reached found v ≡ true) × (distance_of found v ≤ n)
+  pub others : (v : ℕ) → is_reached found v ≡ false → distance_of found v ≡ 0
 
--- the order has the reached nodes, nearest first
+-- the nodes that the search came to, one after another
+abbrev pub nodes_found : Distances → List ℕ
+nodes_found found = take found.count found.order.items
+
+-- the order has exactly the reached nodes, each once, nearest first
+pub record IsNearestFirst (found : Distances) : Type 0 where
+  pub len : length (nodes_found found) ≡ found.count
+  pub exact : (v : ℕ) → Contains (nodes_found found) v ↔ (is_reached found v ≡ true)
+  pub nearest : AllPairs (λ u v. (u ≢ v) × (distance_of found u ≤ distance_of found v)) (nodes_found found)
+
+-- the places of the order have the reached nodes, each once, nearest first
 pub record AreOrdered (nodes : ℕ) (found : Distances) : Type 0 where
   pub room : found.count + unreached found ≤ nodes
   pub inside : (i : ℕ) → i < found.count → is_reached found (order_of found i) ≡ true
   pub met : (v : ℕ) → is_reached found v ≡ true → (i : ℕ) × (i < found.count) × (order_of found i ≡ v)
   pub low : (i : ℕ) → i < found.count → distance_of found (order_of found i) ≤ i
+  pub once : (i j : ℕ) → i < j → j < found.count → order_of found i ≢ order_of found j
   pub rising : (i j : ℕ) → i ≤ j → j < found.count → distance_of found (order_of found i) ≤ distance_of found (order_of found j)
 
 -- the search is through with the nodes before a place of the order

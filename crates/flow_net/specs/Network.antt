@@ -80,6 +80,10 @@ abbrev pub ReachesSink : List (Arc × ℕ) → ℕ → ℕ → Type 0
 ReachesSink ls zero v = v ≡ 1
 ReachesSink ls (suc n) v = (w : ℕ) × ResidualArc ls v w × ReachesSink ls n w
 
+-- the set has exactly the nodes that reach the sink by residual arcs
+abbrev pub IsSinkSet : List (Arc × ℕ) → (ℕ → Bool) → Type 0
+IsSinkSet ls side = (v : ℕ) → (side v ≡ true) ↔ ((n : ℕ) × ReachesSink ls n v)
+
 -- a flow whose value is the capacity of a side: none is larger
 pub record IsMaximum (net : Net) (flow : Flow) : Type 0 where
   pub within : IsWithin net flow

@@ -3,7 +3,7 @@
 ghost use Rattle.std.specs.Prelude.{◌≡◌, ◌⊎◌, ℕ, ◌+◌, ◌^◌, ◌<◌, ◌≤◌, ◌↔◌, IfOk, IsTrue, true, false, length};
 ghost use Rattle.flow_net.specs.Network.{IsValid, IsWithin, loads};
 ghost use Rattle.flow_net.specs.Incidence.{IsIncidenceOf};
-ghost use Rattle.flow_net.specs.Levels.{AreDistances, Visiting, Answered, Keeps, Reaches, Attempts, is_reached, distance_of, order_of, unreached, HasNodes};
+ghost use Rattle.flow_net.specs.Levels.{AreDistances, IsNearestFirst, Visiting, Answered, Keeps, Reaches, Attempts, is_reached, distance_of, order_of, unreached, HasNodes};
 
 use crate::incidence::Incidence;
 use crate::{Arc, Flow, Net};
@@ -29,6 +29,7 @@ pub fn distances_to_sink(alloc: Global, net: &Net, flow: &Flow) -> Result<Distan
     requires valid { IsValid net.now }
     requires within { IsWithin net.now flow.now }
     ensures distances { IfOk result (AreDistances net.now.nodes (loads net.now flow.now)) }
+    ensures order { IfOk result IsNearestFirst }
     ensures small { IfOk result (λ found. (v : ℕ) → distance_of found v < net.now.nodes) }
 {
     let incidence = Incidence::of(alloc, net)?;
@@ -58,6 +59,7 @@ impl Distances {
         requires incidence { IsIncidenceOf net.now incidence.now }
         requires nodes { HasNodes net.now.nodes self.old }
         ensures distances { AreDistances net.now.nodes (loads net.now flow.now) self.new }
+        ensures order { IsNearestFirst self.new }
         ensures small { (v : ℕ) → distance_of self.new v < net.now.nodes }
     {
         self.clear(net.nodes);

@@ -6,7 +6,7 @@ pub mod levels;
 mod validity;
 
 ghost use Rattle.std.specs.Prelude.{◌≡◌, ℕ, ◌+◌, ◌-◌, ◌*◌, ◌^◌, ◌<◌, ◌≤◌, length, slice_get, pos, ◌-ℤ◌, ◌+ℤ◌, IfSome};
-ghost use Rattle.flow_net.specs.Laws.{ValueIsBelowSides, RanksShowTheLatestSide};
+ghost use Rattle.flow_net.specs.Laws.{ValueIsBelowSides, RanksShowTheLatestSide, NoWayIsMaximum, SinkSetIsLatest};
 ghost use Rattle.flow_net.specs.Network.{IsValid, IsWithin, inflow, outflow, flow_value, loads};
 
 pub use validity::{is_valid, is_within};
@@ -40,6 +40,16 @@ pub fn value_is_below_sides()
 /// A side that a flow's value meets, and from which ranks fall to the sink, is the latest.
 pub fn ranks_show_the_latest_side()
     ensures { RanksShowTheLatestSide }
+{}
+
+/// A flow is a maximum one where no residual arcs lead from the source to the sink.
+pub fn no_way_is_maximum()
+    ensures { NoWayIsMaximum }
+{}
+
+/// The nodes that reach the sink by residual arcs of a maximum flow are the latest side.
+pub fn sink_set_is_latest()
+    ensures { SinkSetIsLatest }
 {}
 
 /// What flows out of the source.

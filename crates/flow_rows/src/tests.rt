@@ -16,6 +16,8 @@ use std::test::Fail;
 
 const HALF: u128 = 1 << 119;
 
+const WHOLE: u128 = 1 << 120;
+
 fn net_of(alloc: Global, nodes: u32, arcs: &[(u32, u32, u128)]) -> Result<Net, NoMemory> {
     let mut net = Net {
         nodes,
@@ -108,6 +110,7 @@ fn all_sides(rt: HostRuntime) -> Result<(), Fail> {
     agree(&rt, alloc, 2, &[(0, 1, 0)])?;
     agree(&rt, alloc, 2, &[(0, 1, 3), (0, 1, 0), (0, 1, 4)])?;
     agree(&rt, alloc, 2, &[(0, 1, HALF), (0, 1, HALF - 1)])?;
+    agree(&rt, alloc, 3, &[(0, 2, WHOLE - 9), (2, 1, 8)])?;
     agree(&rt, alloc, 5, &[(0, 2, 3), (3, 1, 4), (3, 4, 1)])?;
     agree(
         &rt,

@@ -1,5 +1,5 @@
 -- The lists of a function are no longer than its items.
-use Rattle.std.proofs.Common.{◌≡◌, ◌<◌, ◌≤◌, ◌+◌, ◌*◌, ◌^◌, Bool, List, [], ◌∷◌, length, arith}
+use Rattle.std.proofs.Common.{◌≡◌, ◌<◌, ◌≤◌, ◌+◌, ◌*◌, ◌^◌, ℕ, suc, Bool, true, false, cond, not, List, [], ◌∷◌, length, refl, arith}
 use Rattle.std.specs.Prelude.{count_by, sum_by}
 use Rattle.std.proofs.lemmas.List.Sums.{sum_by-cons, count_by-le-length}
 use Rattle.ir_types.specs.Limits.{raw_slot_count}
@@ -11,6 +11,16 @@ use Rattle.ir_types.specs.declared.tree.RawTerm.TheVariants.{Return, Jump, Branc
 use Rattle.ir_types.specs.declared.tree.RawBlock.{RawBlock}
 use Rattle.ir_types.specs.declared.tree.RawFunction.{RawFunction}
 use Rattle.ir_check.specs.Room.{blocks_size}
+
+one_each : (b : Bool) (others some all : ℕ) → others + some ≡ all → (cond (not b) 1 0 + others) + (cond b 1 0 + some) ≡ suc all
+one_each true others some all e = omega arith
+one_each false others some all e = omega arith
+
+-- each instruction passes a test, or is one of the others
+pub others_counted : (p : RawInstr → Bool) (xs : List RawInstr) → count_by (λ x. not (p x)) xs + count_by p xs ≡ length xs
+others_counted p [] = refl
+others_counted p (x ∷ xs) =
+    rw (sum_by-cons (λ (x : RawInstr). cond (not (p x)) 1 0) x xs, sum_by-cons (λ (x : RawInstr). cond (p x) 1 0) x xs) (one_each (p x) _ _ _ (others_counted p xs))
 
 -- a count of each block's instructions is no more than all items
 counts_below : (p : RawInstr → Bool) (bs : List RawBlock) → sum_by (λ b. count_by p b.instrs) bs ≤ sum_by block_items bs

@@ -29,10 +29,7 @@ fn allocas_in(instrs: &[RawInstr<'_>]) -> usize
 fn others_in(instrs: &[RawInstr<'_>]) -> usize
     ensures { result ≡ count_by (λ x. not (is_alloca x.kind)) instrs.now }
 {
-    instrs
-        .iter()
-        .filter(|instr| !is_alloca(&instr.kind))
-        .count()
+    instrs.len() - allocas_in(instrs)
 }
 
 fn raw_slot_count(term: &RawTerm<'_>) -> usize

@@ -1,16 +1,19 @@
 //! What the globals and functions of a tree become, in text order, or what is wrong with them.
 ghost use Rattle.std.specs.Prelude.{◌≡◌, ◌++◌, ◌<◌, ◌≤◌, ◌+◌, ◌^◌, [], map, option_map, option_to_list, IfOk, OnOk};
-ghost use Rattle.ir_types.specs.Definitions.{nothing};
+ghost use Rattle.ir_types.specs.Definitions.{name_problem, nothing, symbol_name};
 ghost use Rattle.ir_types.specs.Order.{Global as GlobalItem, items_in_order, starts_before};
-ghost use Rattle.ir_types.specs.Rules.{after_item, at_top, item_problem, items_problem, symbols_of, tree_problem};
+ghost use Rattle.ir_types.specs.Rules.{after_item, at_top, item_problem, items_problem, no_context, nowhere, symbols_of, tree_problem};
 ghost use Rattle.ir_types.specs.Size.{items};
+ghost use Rattle.ir_types.specs.Uses.{value_problem};
 ghost use Rattle.ir_types.specs.ModuleOf.{function_of, global_of};
 ghost use Rattle.ir_uses.specs.Answers.{IsAnswer};
 ghost use Rattle.ir_check.specs.Items.{IsFew, function_in, global_in, item_in, made_of, next_item};
 
 use crate::functions::function;
 use ir_types::items::Items;
+use ir_types::name::Spelling;
 use ir_types::rules::{Here, Meaning};
+use ir_types::span::At;
 use ir_types::syntax;
 use ir_types::tree::{Raw, RawFunction, RawGlobal, Ty};
 use ir_uses::definitions::{Definitions, symbol_name};
@@ -21,14 +24,14 @@ use std::alloc::{AllocError, Global};
 use std::marker::Model;
 
 /// A global or a function of a tree.
-#[derive(Clone, Copy, Debug)]
+#[derive(Clone, Copy)]
 pub enum Part<'m, 'a> {
     Global(&'m RawGlobal<'a>),
     Function(&'m RawFunction<'a>),
 }
 
 /// What a part of a tree becomes.
-#[derive(Debug, Drop)]
+#[derive(Drop)]
 pub enum Made<'a> {
     Global(syntax::Global<'a>),
     Function(syntax::Function<'a>),
@@ -68,11 +71,11 @@ impl<'a> Passed<'a> {
         }
     }
 
-    /// What the names before mean.
-    fn before(&self) -> &Definitions<'a>
-        ensures { result.now ≡ self.now.before }
+    /// Refuses the name of the next part, if an earlier part has it.
+    fn check_symbol(&self, name: &At<Spelling<'a>>) -> Result<(), CheckError>
+        ensures { IsAnswer result (name_problem self.now.before (symbol_name name.now)) }
     {
-        &self.before
+        self.before.check_name(&symbol_name(name))
     }
 
     /// The definitions alone.
@@ -137,6 +140,27 @@ fn symbols_of<'a>(alloc: Global, raw: &Raw<'a>) -> Result<Definitions<'a>, Alloc
     Ok(passed.into_before())
 }
 
+/// Refuses the value of a global at a place in this context.
+fn check_value_in<'m, 'a>(
+    context: &Context<'m, 'a>,
+    global: &RawGlobal<'a>,
+) -> Result<(), CheckError>
+    ensures { IsAnswer result (value_problem context.now nowhere global.now.width global.now.value) }
+{
+    let nowhere = Here { block: 0, instr: 0 };
+    context.operand(nowhere, global.width, false, &global.value)?;
+    Ok(())
+}
+
+/// Refuses the value of a global, before which nothing is defined.
+fn check_value<'a>(alloc: Global, global: &RawGlobal<'a>) -> Result<(), CheckError>
+    ensures { IsAnswer result (value_problem no_context nowhere global.now.width global.now.value) }
+{
+    let nothing = Definitions::new(alloc);
+    let context = Context::new(Default::default(), &nothing, Ty::Void, &nothing);
+    check_value_in(&context, global)
+}
+
 /// What a global becomes, or what is wrong with it.
 fn global<'a>(
     alloc: Global,
@@ -146,11 +170,8 @@ fn global<'a>(
     ensures problem { IsAnswer result (item_problem [] nothing passed.now (GlobalItem global.now)) }
     ensures global { IfOk result (λ made. made ≡ global_of global.now) }
 {
-    passed.before().check_name(&symbol_name(&global.name))?;
-    let nothing = Definitions::new(alloc);
-    let context = Context::new(&[], &nothing, Ty::Void, &nothing);
-    let nowhere = Here { block: 0, instr: 0 };
-    context.operand(nowhere, global.width, false, &global.value)?;
+    passed.check_symbol(&global.name)?;
+    check_value(alloc, global)?;
     Ok(syntax::Global {
         name: global.name.item.copied(),
         width: global.width,
@@ -173,7 +194,7 @@ fn checked_part<'m, 'a>(
     match part {
         Part::Global(each) => Ok(Made::Global(global(alloc, passed, each)?)),
         Part::Function(each) => {
-            passed.before().check_name(&symbol_name(&each.name))?;
+            passed.check_symbol(&each.name)?;
             Ok(Made::Function(function(alloc, functions, symbols, each)?))
         }
     }

@@ -2,7 +2,6 @@ mod Acting
 mod Closing
 mod Example
 mod Fitting
-mod Small
 pub mod Taken
 mod Waiting
 mod Widths

@@ -2,5 +2,4 @@ pub mod Code
 pub mod Fits
 pub mod Prof
 pub mod Same
-pub mod Small
 pub mod Step

@@ -6,8 +6,6 @@ mod ends;
 pub mod frame;
 pub mod machine;
 mod step;
-#[cfg(test)]
-mod tests;
 pub mod values;
 
 pub use machine::Machine;

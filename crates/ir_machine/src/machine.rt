@@ -38,7 +38,7 @@ fn written(alloc: Global, globals: &[syntax::Global<'_>]) -> Result<Values, Allo
 
 /// A module that runs, a step at a time. Contracts see the module, what runs, whether the machine waits for a byte, and whether it has
 /// ended.
-#[derive(Debug, Drop)]
+#[derive(Drop)]
 pub struct Machine<'m, 'a> {
     program: &'m Module<'a>,
     globals: Values,

@@ -24,7 +24,7 @@ use ir_types::tree::{Raw, RawFunction, RawGlobal, RawParam, Ty};
 use std::alloc::{AllocError, Global};
 
 /// A function or a global.
-#[derive(Debug, Drop)]
+#[derive(Drop)]
 pub enum Member<'a> {
     Function(RawFunction<'a>),
     Global(RawGlobal<'a>),

@@ -19,7 +19,7 @@ use ir_types::tree;
 use std::alloc::Global;
 
 /// Why tokens spell no tree.
-#[derive(Clone, Copy, Debug, PartialEq, Eq)]
+#[derive(Clone, Copy)]
 pub enum ParseError {
     /// The place of the first token at which the grammar can't go on, or the end.
     Syntax(Span),

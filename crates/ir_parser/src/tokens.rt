@@ -18,13 +18,13 @@ use ir_types::span::At;
 use std::alloc::AllocError;
 
 /// The index of the token at which reading stops, or the number of tokens at the end.
-#[derive(Clone, Copy, Debug, PartialEq, Eq)]
+#[derive(Clone, Copy)]
 pub struct Stop {
     pub at: usize,
 }
 
 /// Why there is no tree.
-#[derive(Clone, Copy, Debug, PartialEq, Eq)]
+#[derive(Clone, Copy)]
 pub enum Trouble {
     Memory,
     Stopped(Stop),

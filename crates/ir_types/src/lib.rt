@@ -11,6 +11,4 @@ pub mod operands;
 pub mod rules;
 pub mod span;
 pub mod syntax;
-#[cfg(test)]
-mod tests;
 pub mod tree;

@@ -41,7 +41,7 @@ pub struct Problem {
 }
 
 /// What a name of a function, or of the whole tree, means. All numbers count from 0.
-#[derive(Clone, Copy, Debug, PartialEq, Eq)]
+#[derive(Clone, Copy)]
 pub enum Meaning {
     /// The function's parameter of this number and width.
     Parameter(u32, Width),
@@ -59,7 +59,7 @@ pub enum Meaning {
 }
 
 /// A place of a function: a block, and how many instructions that are no allocas stand before the place in it.
-#[derive(Clone, Copy, Debug, PartialEq, Eq)]
+#[derive(Clone, Copy)]
 pub struct Here {
     pub block: u32,
     pub instr: u32,

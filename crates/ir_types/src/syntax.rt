@@ -5,7 +5,7 @@ use crate::operands::Operands;
 use mc_num::{Op, Width};
 
 /// A value that an instruction takes. Its width is the one that the instruction asks for.
-#[derive(Clone, Copy, Debug, PartialEq, Eq, Hash)]
+#[derive(Clone, Copy, Debug, PartialEq, Eq)]
 pub enum Operand {
     /// A constant, below 2^w at a width of w bits.
     Const(u64),
@@ -31,7 +31,7 @@ pub enum Variable {
 }
 
 /// What an instruction does.
-#[derive(Debug, Drop)]
+#[derive(Drop)]
 pub enum Kind {
     /// Reads a variable.
     Load(Variable),
@@ -44,14 +44,14 @@ pub enum Kind {
 }
 
 /// An instruction, with the name of its result, if it gives one.
-#[derive(Debug, Drop)]
+#[derive(Drop)]
 pub struct Instr<'a> {
     pub result: Option<Name<'a>>,
     pub kind: Kind,
 }
 
 /// What ends a block. Blocks are numbered from 0 within their function.
-#[derive(Debug, Drop)]
+#[derive(Drop)]
 pub enum Terminator {
     /// Returns a value, or none from a `void` function.
     Return(Option<Operand>),
@@ -66,7 +66,7 @@ pub enum Terminator {
 }
 
 /// A basic block. Its allocas are the function's variables, and no instructions.
-#[derive(Debug, Drop)]
+#[derive(Drop)]
 pub struct Block<'a> {
     pub name: Name<'a>,
     pub instrs: Items<Instr<'a>>,
@@ -74,7 +74,7 @@ pub struct Block<'a> {
 }
 
 /// A function; without blocks it is a declaration. It returns `ret`, or nothing where that is `None`.
-#[derive(Debug, Drop)]
+#[derive(Drop)]
 pub struct Function<'a> {
     pub name: Spelling<'a>,
     pub ret: Option<Width>,
@@ -84,7 +84,7 @@ pub struct Function<'a> {
 }
 
 /// A global variable with its first value, below 2^w at a width of w bits.
-#[derive(Debug, Drop)]
+#[derive(Drop)]
 pub struct Global<'a> {
     pub name: Spelling<'a>,
     pub width: Width,

@@ -6,7 +6,7 @@ use crate::span::{At, Span};
 use mc_num::{Bin, Cast, Pred, Width};
 
 /// A written type.
-#[derive(Clone, Copy, Debug, PartialEq, Eq)]
+#[derive(Clone, Copy)]
 pub enum Ty {
     Int(Width),
     Void,
@@ -14,14 +14,14 @@ pub enum Ty {
 }
 
 /// What is written where a variable is due.
-#[derive(Debug, Drop)]
+#[derive(Drop)]
 pub enum Address<'a> {
     Local(Name<'a>),
     Global(Spelling<'a>),
 }
 
 /// What is written where a value is due.
-#[derive(Debug, Drop)]
+#[derive(Drop)]
 pub enum RawValue<'a> {
     Local(Name<'a>),
     /// A literal that 128 bits with a sign hold.
@@ -34,14 +34,14 @@ pub enum RawValue<'a> {
 }
 
 /// An argument of a call with its written type.
-#[derive(Debug, Drop)]
+#[derive(Drop)]
 pub struct RawArg<'a> {
     pub ty: Ty,
     pub value: At<RawValue<'a>>,
 }
 
 /// What an instruction does, as it is written.
-#[derive(Debug, Drop)]
+#[derive(Drop)]
 pub enum RawKind<'a> {
     Alloca(Width),
     Load(Width, At<Address<'a>>),
@@ -55,7 +55,7 @@ pub enum RawKind<'a> {
 }
 
 /// An instruction with the name written for its result, if any, and the place of its word.
-#[derive(Debug, Drop)]
+#[derive(Drop)]
 pub struct RawInstr<'a> {
     pub result: Option<At<Name<'a>>>,
     pub word: Span,
@@ -63,7 +63,7 @@ pub struct RawInstr<'a> {
 }
 
 /// A case of a switch.
-#[derive(Debug, Drop)]
+#[derive(Drop)]
 pub struct RawCase<'a> {
     pub width: At<Width>,
     pub value: At<RawValue<'a>>,
@@ -71,7 +71,7 @@ pub struct RawCase<'a> {
 }
 
 /// What ends a block, as it is written.
-#[derive(Debug, Drop)]
+#[derive(Drop)]
 pub enum RawTerm<'a> {
     Return(Option<(Width, At<RawValue<'a>>)>),
     Jump(At<Name<'a>>),
@@ -81,7 +81,7 @@ pub enum RawTerm<'a> {
 }
 
 /// A basic block with its label, if one is written, and the place of its terminator's word.
-#[derive(Debug, Drop)]
+#[derive(Drop)]
 pub struct RawBlock<'a> {
     pub label: Option<At<Name<'a>>>,
     pub instrs: Items<RawInstr<'a>>,
@@ -90,14 +90,14 @@ pub struct RawBlock<'a> {
 }
 
 /// A parameter with its name, if one is written.
-#[derive(Debug, Drop)]
+#[derive(Drop)]
 pub struct RawParam<'a> {
     pub width: Width,
     pub name: Option<At<Name<'a>>>,
 }
 
 /// A function; without blocks it is a declaration.
-#[derive(Debug, Drop)]
+#[derive(Drop)]
 pub struct RawFunction<'a> {
     pub name: At<Spelling<'a>>,
     pub ret: Ty,
@@ -106,7 +106,7 @@ pub struct RawFunction<'a> {
 }
 
 /// A global variable with its written value.
-#[derive(Debug, Drop)]
+#[derive(Drop)]
 pub struct RawGlobal<'a> {
     pub name: At<Spelling<'a>>,
     pub width: Width,
@@ -114,7 +114,7 @@ pub struct RawGlobal<'a> {
 }
 
 /// A whole tree: its functions and its globals, each in text order.
-#[derive(Debug, Drop)]
+#[derive(Drop)]
 pub struct Raw<'a> {
     pub functions: Items<RawFunction<'a>>,
     pub globals: Items<RawGlobal<'a>>,

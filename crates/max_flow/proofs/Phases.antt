@@ -1,20 +1,21 @@
 -- Levels and dead nodes while amounts move, and how far the sink is once the source is dead.
-use Rattle.std.proofs.Common.{◌≡◌, ◌≢◌, ℕ, suc, zero, ◌+◌, ◌<◌, ◌≤◌, Bool, true, false, List, length, ap, arith, sym, ◌∙◌, inl, inr, set, subst, get_or, ◌⊎◌}
+use Rattle.std.proofs.Common.{◌≡◌, ◌≢◌, ℕ, suc, zero, ◌+◌, ◌<◌, ◌≤◌, Bool, true, false, List, length, refl, ap, arith, sym, ◌∙◌, inl, inr, set, subst, get_or, ◌⊎◌}
 use Rattle.std.proofs.lemmas.Bool.{cases_eq, cases_lt, true≢false}
 use Rattle.std.proofs.lemmas.List.{get_or-set_same, get_or-set_other, length-set, get_or_default}
 use Rattle.flow_net.specs.declared.Arc.{Arc}
 use Rattle.flow_net.specs.declared.levels.Distances.{Distances}
 use Rattle.flow_net.specs.Network.{ResidualArc, ReachesSink, LetsMore}
 use Rattle.flow_net.specs.Levels.{AreDistances, is_reached, distance_of}
-use Rattle.flow_net.proofs.Cuts.{walk_from_reached}
 use Rattle.max_flow.specs.Path.{IsNearer, IsStuck, AreDead, AreLevels, LeadsFarther, RisesAbove, is_dead}
 
 pub levels_first : (nodes : ℕ) (ls : List (Arc × ℕ)) (found : Distances) → AreDistances nodes ls found → AreLevels nodes ls found
 levels_first nodes ls found d = record {
-  reached_len = d.sound.places.reached_len;
-  distance_len = d.sound.places.distance_len;
-  sink = d.sound.sink.0;
-  closed = d.closed;
+  reached_len = d.places.reached_len;
+  distance_len = d.places.distance_len;
+  sink = (d.fewest 0 1 refl).0;
+  closed = λ u v arc h.
+      (let here : (is_reached found u ≡ true) × (distance_of found u ≤ suc (distance_of found v)) = d.fewest (suc (distance_of found v)) u (v, arc, d.walk v h) in
+      (here.0, omega (arith, here.1)));
 }
 
 -- the same for residual arcs
@@ -94,8 +95,9 @@ dead_above nodes ls found dead l none d (suc n) v h walk =
 -- a phase that ends with the source dead has put the sink farther
 pub rises : (nodes : ℕ) (old new : List (Arc × ℕ)) (found : Distances) (dead : List Bool) → AreDistances nodes old found → is_reached found 0 ≡ true → AreLevels nodes new found → AreDead nodes new found dead → is_dead dead 0 ≡ true → RisesAbove old new
 rises nodes old new found dead d there l dies h m fewest n walk =
-    let above : distance_of found 0 < n = dead_above nodes new found dead l d.sound.sink.1 dies n 0 h walk in
-    let fits : m ≤ distance_of found 0 = fewest (distance_of found 0) (walk_from_reached nodes old found d 0 there) in
+    let none : distance_of found 1 ≡ 0 = omega (arith, (d.fewest 0 1 refl).1) in
+    let above : distance_of found 0 < n = dead_above nodes new found dead l none dies n 0 h walk in
+    let fits : m ≤ distance_of found 0 = fewest (distance_of found 0) (d.walk 0 there) in
     omega arith
 
 pub source_far : (ls : List (Arc × ℕ)) (n : ℕ) → ReachesSink ls n 0 → 0 < n

@@ -10,7 +10,7 @@ ghost use Rattle.max_flow.specs.Marking.{HasMarks, ArePassed};
 use crate::pushing::{Step, augment, end, start};
 use flow_net::incidence::Incidence;
 use flow_net::levels::Distances;
-use flow_net::{Flow, Net};
+use flow_net::{Flow, Net, no_way_is_maximum};
 
 /// What a phase knows of the nodes.
 #[derive(Drop)]
@@ -47,6 +47,7 @@ pub fn fill(
 {
     found.search(net, flow, incidence);
     if !found.reached[0] {
+        no_way_is_maximum();
         return false;
     }
     marks.reset(net.nodes);

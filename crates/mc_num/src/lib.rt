@@ -10,6 +10,3 @@ pub use memory::NoMemory;
 pub use op::{Bin, Cast, Op, Pred, Trap, Width, arg_width, arity, bits, result_width};
 pub use traps::can_trap;
 pub use value::eval;
-
-#[cfg(test)]
-mod tests;

@@ -16,6 +16,7 @@ use Rattle.expressions.specs.declared.syntax.Event.TheVariants.{Occurs as Occurs
 use Rattle.expressions.specs.Expressions.{expr_traps}
 use Rattle.placement.specs.declared.placements.Placement.{Placement}
 use Rattle.placement.specs.Placements.{arcs_of, Writes as ArcWrites, Kills as ArcKills, IsDeleted, IsValidPath, IsCorrect as IsArcCorrect, IsLiveAt, IsSafe as IsArcSafe}
+use Rattle.placed_moves.specs.Placed.{IsTold}
 use Rattle.applied.specs.Motion.{Occurs, Kills, Bars, Met, at_point, on_edge, met, Writes, KillsMet, IsValid, IsLive, LeadsAllTo, IsInevitableWithin, Move, IsMove}
 use Rattle.applied.proofs.Living.{not_true}
 
@@ -291,8 +292,9 @@ module _ (program : Program) (function : Function) (points : List Point) (edges 
         let k = (placed.kept_is v).0 e in
         absurd (deleted.1 (subst (Contains p.kept) (graph.points_once k.0 i v k.1 at) k.3))
 
-    pub numbered_move : IsArcCorrect arcs Is p → (expr_traps move.expr ≡ true → IsArcSafe arcs Is p) → IsMove program function move
-    numbered_move correct safe = record {
+    -- what the placement says of points and edges, whether it is correct or not
+    pub numbered_told : IsTold program function move
+    numbered_told = record {
       found_at = placed.found_at;
       found = placed.found;
       inserted_is = λ edge inserted.
@@ -311,6 +313,16 @@ module _ (program : Program) (function : Function) (points : List Point) (edges 
       live_is = λ v reached.
           let n = reached_number v reached in
           (λ live. live_back n.0 v n.1 ((placed.live_is n.0 v n.1).0 live), λ live. (placed.live_is n.0 v n.1).1 (live_forth n.0 v n.1 live));
+    }
+
+    pub numbered_move : IsArcCorrect arcs Is p → (expr_traps move.expr ≡ true → IsArcSafe arcs Is p) → IsMove program function move
+    numbered_move correct safe = record {
+      found_at = numbered_told.found_at;
+      found = numbered_told.found;
+      inserted_is = numbered_told.inserted_is;
+      kept_is = numbered_told.kept_is;
+      deleted_is = numbered_told.deleted_is;
+      live_is = numbered_told.live_is;
       correct = λ v path deleted leads.
           let a = arcs_path Start path v 0 leads graph.start in
           valid_back path a.arc_path a.alike (correct a.end a.arc_path (deleted_number v a.end a.at deleted) a.leads);

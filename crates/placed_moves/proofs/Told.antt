@@ -12,6 +12,8 @@ use Rattle.ir_types.specs.declared.syntax.Terminator.{Terminator}
 use Rattle.ir_types.specs.declared.syntax.Terminator.TheVariants.{Return, Jump, Branch, Switch, Unreachable}
 use Rattle.ir_types.specs.declared.syntax.Block.{Block}
 use Rattle.ir_types.specs.declared.syntax.Function.{Function}
+use Rattle.point_graph.specs.Graph as graph
+use Rattle.point_numbers.specs.Told.{AreTold}
 use Rattle.point_graph.specs.Numbers.{ArePoints, of_block, block_points, all_points, all_edges, point_of}
 use Rattle.point_graph.specs.declared.graph.Point.{Point}
 use Rattle.point_graph.specs.declared.graph.Point.TheVariants.{Start, Head, Instr, Term}
@@ -28,8 +30,8 @@ use Rattle.placement.specs.declared.placements.Placement.{Placement}
 use Rattle.placement.specs.Placements.{arcs_of, IsCorrect, IsSafe}
 use Rattle.motion_events.proofs.Events.{there_is, occurs_agree, kills_agree}
 use Rattle.applied.specs.Motion.{OccursIn, Occurs, KillsIn, Kills, KindBars, TermBars, PlaceBars, BarsIn, Bars, Move, IsMove}
-use Rattle.placed_moves.specs.Placed.{IsPlaced}
-use Rattle.placed_moves.proofs.Moves.{Placed, numbered_move}
+use Rattle.placed_moves.specs.Placed.{IsPlaced, IsTold}
+use Rattle.placed_moves.proofs.Moves.{Placed, numbered_told, numbered_move}
 
 -- ---- lists
 
@@ -185,13 +187,17 @@ module _ (m : Program) (f : Function) (e : Expr) where
 
 -- ---- the placement of one expression of a table
 
-pub placed_move : (f : Function) (p : Points) (t : Kept) (x : ℕ) (placement : Placement) (move : Move) → 0 < length f.blocks → ArePoints f p → IsTable f p t → IsPlaced f p t x placement move → IsCorrect (arcs_of p.edges) (IsEventOf f p t x) placement → (expr_traps move.expr ≡ true → IsSafe (arcs_of p.edges) (IsEventOf f p t x) placement) → IsMove t.module_of f move
-placed_move f p t x placement move defined are table placed correct safe =
+-- the numbers of points and edges of a function with blocks
+numbers : (f : Function) (p : Points) (t : Kept) → 0 < length f.blocks → ArePoints f p → IsTable f p t → AreTold f (map (point_of f) p.points) (all_edges f p.blocks) p.edges
+numbers f p t defined are table = are_told f p (record { module_of = t.module_of; rules = table.rules }) defined are
+
+all_placed : (f : Function) (p : Points) (t : Kept) (x : ℕ) (placement : Placement) (move : Move) (defined : 0 < length f.blocks) (are : ArePoints f p) (table : IsTable f p t) → IsPlaced f p t x placement move
+    → Placed t.module_of f (map (point_of f) p.points) (all_edges f p.blocks) p.edges (numbers f p t defined are table) (IsEventOf f p t x) placement move
+all_placed f p t x placement move defined are table placed =
     let m = t.module_of in
     let e = move.expr in
     let points = map (point_of f) p.points in
     let edges = all_edges f p.blocks in
-    let told = are_told f p (record { module_of = m; rules = table.rules }) defined are in
     -- an event of the table is one of the expression at the point
     let event_at = λ (i : ℕ) (at : Point) (event : Event) (there : slice_get p.points i ≡ Some at) (is : IsEventOf f p t x i event).
     let exprs : is.expr ≡ e = let both : Some is.expr ≡ Some e = sym is.expr_there ∙ placed.expr_there in cc in
@@ -204,7 +210,7 @@ placed_move f p t x placement move defined are table placed correct safe =
     let listed : Contains (filter_map (expr_at m f) p.points) e =
     (table.exprs.members e).0 (x, slice_get_within t.exprs x e placed.expr_there, contained_get t.exprs e x placed.expr_there) in
     let found = in_filter (expr_at m f) p.points listed.0 e (get_contained (filter_map (expr_at m f) p.points) e listed.0 listed.1 listed.2) in
-    let all : Placed m f points edges p.edges told (IsEventOf f p t x) placement move = record {
+    record {
       found_at = point_of f found.1;
       found = (occurs_at m f e found.1).0 found.3;
       occurs_is = λ i v there.
@@ -225,5 +231,18 @@ placed_move f p t x placement move defined are table placed correct safe =
       kept_is = placed.kept_is;
       deleted_is = placed.deleted_is;
       live_is = placed.live_is;
-    } in
-    numbered_move m f points edges p.edges told (IsEventOf f p t x) placement move all correct safe
+    }
+
+pub placed_told : (f : Function) (p : Points) (t : Kept) (x : ℕ) (placement : Placement) (move : Move) → 0 < length f.blocks → ArePoints f p → IsTable f p t → IsPlaced f p t x placement move → IsTold t.module_of f move
+placed_told f p t x placement move defined are table placed =
+    numbered_told t.module_of f (map (point_of f) p.points) (all_edges f p.blocks) p.edges (numbers f p t defined are table) (IsEventOf f p t x) placement move
+    (all_placed f p t x placement move defined are table placed)
+
+pub occurs_told : (f : Function) (p : Points) (t : Kept) (x : ℕ) (placement : Placement) (move : Move) → 0 < length f.blocks → ArePoints f p → IsTable f p t → IsPlaced f p t x placement move
+    → (i : ℕ) (v : graph.Point) → slice_get (map (point_of f) p.points) i ≡ Some v → IsEventOf f p t x i events.Occurs ↔ Occurs t.module_of f move.expr v
+occurs_told f p t x placement move defined are table placed = (all_placed f p t x placement move defined are table placed).occurs_is
+
+pub placed_move : (f : Function) (p : Points) (t : Kept) (x : ℕ) (placement : Placement) (move : Move) → 0 < length f.blocks → ArePoints f p → IsTable f p t → IsPlaced f p t x placement move → IsCorrect (arcs_of p.edges) (IsEventOf f p t x) placement → (expr_traps move.expr ≡ true → IsSafe (arcs_of p.edges) (IsEventOf f p t x) placement) → IsMove t.module_of f move
+placed_move f p t x placement move defined are table placed correct safe =
+    numbered_move t.module_of f (map (point_of f) p.points) (all_edges f p.blocks) p.edges (numbers f p t defined are table) (IsEventOf f p t x) placement move
+    (all_placed f p t x placement move defined are table placed) correct safe

@@ -1,8 +1,9 @@
 //! What the calls tell of a placement.
-ghost use Rattle.std.specs.Prelude.{◌<◌, All, IsTrue, length};
+ghost use Rattle.std.specs.Prelude.{◌<◌, length};
 ghost use Rattle.ir_types.specs.Limits.{IsWithinLimits};
 ghost use Rattle.ir_types.specs.WellFormed.{IsFunctionIn};
 
+use crate::ordering::are_below;
 use crate::seen::function_at;
 use expressions::table;
 use ir_reader::read;
@@ -21,13 +22,6 @@ use std::test::Fail;
 pub struct Placed {
     pub invalid: Option<u32>,
     pub live: Vec<u8>,
-}
-
-/// Whether each number is below the bound.
-fn are_below(numbers: &[u32], bound: usize) -> bool
-    ensures { IsTrue result → All (λ n. n < bound) numbers.now }
-{
-    numbers.iter().all(|n| (*n as usize) < bound)
 }
 
 fn letters(alloc: Global, bits: &[bool]) -> Result<Vec<u8>, NoMemory> {

@@ -1,7 +1,8 @@
 //! The modules.
 
 /// A branch with an expression in one arm and behind both.
-pub const ARM: &[u8] = b"
+pub fn arm<'a>() -> &'a [u8] {
+    b"
 declare i32 @getchar()
 
 define i32 @main() {
@@ -30,10 +31,12 @@ join:
   %y = add i32 %y1, %y2
   ret i32 %y
 }
-";
+"
+}
 
 /// A loop with an expression in an arm.
-pub const LOOP: &[u8] = b"
+pub fn looping<'a>() -> &'a [u8] {
+    b"
 define i32 @main() {
 entry:
   %a = alloca i32
@@ -64,10 +67,12 @@ latch:
 exit:
   ret i32 0
 }
-";
+"
+}
 
 /// An expression again in a cold arm.
-pub const COLD: &[u8] = b"
+pub fn cold<'a>() -> &'a [u8] {
+    b"
 define i32 @main() {
 entry:
   %a = alloca i32
@@ -84,10 +89,12 @@ cold:
 end:
   ret i32 0
 }
-";
+"
+}
 
 /// An expression in both arms.
-pub const BOTH: &[u8] = b"
+pub fn both<'a>() -> &'a [u8] {
+    b"
 declare i32 @getchar()
 
 define i32 @main() {
@@ -107,10 +114,12 @@ warm:
   %z = add i32 %a3, 1
   ret i32 %z
 }
-";
+"
+}
 
 /// An expression of a global, with a call of a defined function and one of an external one between.
-pub const GLOBAL: &[u8] = b"
+pub fn a_global<'a>() -> &'a [u8] {
+    b"
 @g = global i32 5
 declare i32 @getchar()
 define i32 @main() {
@@ -128,10 +137,12 @@ define i32 @f() {
   store i32 7, ptr @g
   ret i32 0
 }
-";
+"
+}
 
 /// Divisions, operands in another order, a store behind a load, two slots to one block, and a block without a path.
-pub const MIXED: &[u8] = b"
+pub fn mixed<'a>() -> &'a [u8] {
+    b"
 define i32 @f(i32 %p) {
 entry:
   %a = alloca i32
@@ -150,4 +161,77 @@ lost:
 end:
   unreachable
 }
-";
+"
+}
+
+/// Divisions in one arm and behind both, the latter behind a call that may end the program.
+pub fn barred<'a>() -> &'a [u8] {
+    b"
+declare i32 @getchar()
+declare i32 @putchar(i32)
+
+define i32 @main() {
+entry:
+  %a = alloca i32
+  %b = alloca i32
+  %s = alloca i32
+  %g = call i32 @getchar()
+  store i32 %g, ptr %a
+  %h = call i32 @getchar()
+  store i32 %h, ptr %b
+  %g1 = load i32, ptr %a
+  %c = icmp eq i32 %g1, 65
+  br i1 %c, label %left, label %right
+left:
+  %x1 = load i32, ptr %a
+  %x2 = load i32, ptr %b
+  %x = sdiv i32 %x1, %x2
+  store i32 %x, ptr %s
+  br label %join
+right:
+  br label %join
+join:
+  %p = call i32 @putchar(i32 65)
+  %y1 = load i32, ptr %a
+  %y2 = load i32, ptr %b
+  %y = sdiv i32 %y1, %y2
+  ret i32 %y
+}
+"
+}
+
+/// A loop with a division in an arm.
+pub fn divides<'a>() -> &'a [u8] {
+    b"
+define i32 @main() {
+entry:
+  %a = alloca i32
+  %b = alloca i32
+  %i = alloca i32
+  %t = alloca i32
+  br label %head
+head:
+  %i1 = load i32, ptr %i
+  %c = icmp ult i32 %i1, 1000
+  br i1 %c, label %body, label %exit
+body:
+  %i2 = load i32, ptr %i
+  %m = urem i32 %i2, 100
+  %d = icmp ne i32 %m, 0
+  br i1 %d, label %arm, label %latch
+arm:
+  %x1 = load i32, ptr %a
+  %x2 = load i32, ptr %b
+  %x = sdiv i32 %x1, %x2
+  store i32 %x, ptr %t
+  br label %latch
+latch:
+  %i3 = load i32, ptr %i
+  %n = add i32 %i3, 1
+  store i32 %n, ptr %i
+  br label %head
+exit:
+  ret i32 0
+}
+"
+}

@@ -1,6 +1,6 @@
 use crate::placing::placed_at;
 use crate::seen::{Seen, seen_at};
-use crate::sources::{ARM, BOTH, COLD, GLOBAL, LOOP, MIXED};
+use crate::sources::{a_global, arm, both, cold, looping, mixed};
 use std::alloc::Global;
 use std::process::Abort;
 use std::test::Fail;
@@ -32,13 +32,21 @@ fn has(
 #[test]
 fn branches(rt: HostRuntime) -> Result<(), Fail> {
     let alloc = rt.alloc();
-    let arm = b"..BKB..O.............B..BKBK......O.......OB";
-    has(&rt, alloc, ARM, 1, (4, 22, 22, 2), b"..", arm)?;
-    has(&rt, alloc, COLD, 0, (3, 13, 13, 1), b".", b"...O....O...B")?;
+    let events = b"..BKB..O.............B..BKBK......O.......OB";
+    has(&rt, alloc, arm(), 1, (4, 22, 22, 2), b"..", events)?;
     has(
         &rt,
         alloc,
-        BOTH,
+        cold(),
+        0,
+        (3, 13, 13, 1),
+        b".",
+        b"...O....O...B",
+    )?;
+    has(
+        &rt,
+        alloc,
+        both(),
         1,
         (3, 15, 14, 2),
         b"..",
@@ -50,15 +58,31 @@ fn branches(rt: HostRuntime) -> Result<(), Fail> {
 fn a_loop(rt: HostRuntime) -> Result<(), Fail> {
     let events =
         b".....O...............K..B.........O...........K..B...............O........B....................OK..B";
-    has(&rt, rt.alloc(), LOOP, 0, (6, 25, 26, 4), b"....", events)
+    has(
+        &rt,
+        rt.alloc(),
+        looping(),
+        0,
+        (6, 25, 26, 4),
+        b"....",
+        events,
+    )
 }
 
 #[test]
 fn globals_and_traps(rt: HostRuntime) -> Result<(), Fail> {
     let alloc = rt.alloc();
-    has(&rt, alloc, GLOBAL, 1, (1, 11, 10, 1), b".", b"...OK..OBOB")?;
-    let mixed = b"...O.K..BB..B....OK..BB..B.......OBB..B........OB..B........BO..B";
-    has(&rt, alloc, MIXED, 0, (2, 13, 13, 5), b"...tt", mixed)
+    has(
+        &rt,
+        alloc,
+        a_global(),
+        1,
+        (1, 11, 10, 1),
+        b".",
+        b"...OK..OBOB",
+    )?;
+    let events = b"...O.K..BB..B....OK..BB..B.......OBB..B........OB..B........BO..B";
+    has(&rt, alloc, mixed(), 0, (2, 13, 13, 5), b"...tt", events)
 }
 
 /// A placement has this first invalid occurrence, and its temporary is live at these points.
@@ -85,7 +109,7 @@ fn placements(rt: HostRuntime) -> Result<(), Fail> {
     is_placed(
         &rt,
         alloc,
-        ARM,
+        arm(),
         1,
         1,
         (&[17], &[12]),
@@ -95,18 +119,27 @@ fn placements(rt: HostRuntime) -> Result<(), Fail> {
     is_placed(
         &rt,
         alloc,
-        ARM,
+        arm(),
         1,
         1,
         (&[], &[12]),
         Some(20),
         b"LLLLLLLLL....LLLLLLLL.",
     )?;
-    is_placed(&rt, alloc, COLD, 0, 0, (&[], &[3]), None, b"....LLLLL....")?;
     is_placed(
         &rt,
         alloc,
-        COLD,
+        cold(),
+        0,
+        0,
+        (&[], &[3]),
+        None,
+        b"....LLLLL....",
+    )?;
+    is_placed(
+        &rt,
+        alloc,
+        cold(),
         0,
         0,
         (&[], &[8]),

@@ -6,7 +6,7 @@ use Rattle.ir_types.specs.Program.{Program}
 use Rattle.ir_printer.specs.Text.{text_of}
 use Rattle.ir_reader.specs.Reading.{Reads, HasOneAnswer}
 use Rattle.top_call.specs.declared.ending.Problem.{Problem}
-use Rattle.top_call.specs.declared.ending.Problem.TheVariants.{TooLong, Text, Grown, NoMain}
+use Rattle.top_call.specs.declared.ending.Problem.TheVariants.{TooLong, Text, Grown, NoMain, LongProfile, BadProfile}
 use Rattle.top_call.specs.declared.ending.Done.TheVariants.{Written, Returned}
 use Rattle.top_call.specs.declared.ending.Stop.{Stop}
 use Rattle.top_call.specs.declared.ending.Stop.TheVariants.{Usage, Refused, ReadFault, WriteFault, OutOfMemory, Trapped, StepLimit}
@@ -15,7 +15,7 @@ use Rattle.top_call.specs.Print.{ReadsAs, PrintsAs, HasProblem, PrintEnds}
 use Rattle.top_call.specs.Stops.{StopsReading}
 
 -- a file that was not read
-pub read_stopped : (input output : List ℕ) (old new : HostState) (stop : Stop) → StopsReading input old new stop → OnlyReads old new → PrintEnds input output old new (Err stop)
+pub read_stopped : (input output : List ℕ) (old new : HostState) (stop : Stop) → StopsReading input TooLong old new stop → OnlyReads old new → PrintEnds input output old new (Err stop)
 read_stopped input output old new (Refused file problem) stops reads =
     let P : Problem → Type 0 = λ p. IsTrue old.tells → HasProblem old input p in
     (stops.0, reads.files, subst P (sym stops.1) stops.2)
@@ -56,6 +56,8 @@ module _ (one : (bytes : List ℕ) → HasOneAnswer bytes) (host : HostState) (i
   not_both text TooLong prints has = not_long prints.program prints.reads has
   not_both text (Text refusal excerpt) prints has = not_refused prints.program refusal excerpt prints.reads has
   not_both text NoMain prints has = absurd has
+  not_both text LongProfile prints has = absurd has
+  not_both text (BadProfile problem) prints has = absurd has
   not_both text Grown prints has =
       let program : has.0 ≡ prints.program = same_program has.0 prints.program has.1 prints.reads in
       let l = ap (λ (m : Program). length (text_of m)) program in
@@ -85,3 +87,24 @@ module _ (one : (bytes : List ℕ) → HasOneAnswer bytes) (host : HostState) (i
   print_complete output new (Err Usage) ends tells text prints reads writes = absurd ends
   print_complete output new (Err (Trapped trap)) ends tells text prints reads writes = absurd ends
   print_complete output new (Err (StepLimit steps)) ends tells text prints reads writes = absurd ends
+
+  -- what is refused of a file that reads is that its text is too long
+  refused_as_grown : (m : Program) → ReadsAs host input m → (problem : Problem) → HasProblem host input problem → HasProblem host input Grown
+  refused_as_grown m reads Grown has = has
+  refused_as_grown m reads TooLong has = absurd (not_long m reads has)
+  refused_as_grown m reads (Text refusal excerpt) has = absurd (not_refused m refusal excerpt reads has)
+  refused_as_grown m reads NoMain has = absurd has
+  refused_as_grown m reads LongProfile has = absurd has
+  refused_as_grown m reads (BadProfile problem) has = absurd has
+
+  pub print_grown : (output : List ℕ) (new : HostState) (ending : Ending) → PrintEnds input output host new ending → IsTrue host.tells
+      → (m : Program) → ReadsAs host input m → ¬ (Rose host.read_faults new.read_faults) → ¬ (Rose host.write_faults new.write_faults)
+      → (status_of ending ≡ 0) ⊎ (status_of ending ≡ 5) ⊎ ((status_of ending ≡ 1) × HasProblem host input Grown)
+  print_grown output new (Ok done) ends tells m is_read reads writes = inl refl
+  print_grown output new (Err (Refused file told)) ends tells m is_read reads writes = inr (inr (refl, refused_as_grown m is_read told (ends.2 tells)))
+  print_grown output new (Err (ReadFault name)) ends tells m is_read reads writes = absurd (reads ends.2)
+  print_grown output new (Err (WriteFault name)) ends tells m is_read reads writes = absurd (writes ends.1)
+  print_grown output new (Err OutOfMemory) ends tells m is_read reads writes = inr (inl refl)
+  print_grown output new (Err Usage) ends tells m is_read reads writes = absurd ends
+  print_grown output new (Err (Trapped trap)) ends tells m is_read reads writes = absurd ends
+  print_grown output new (Err (StepLimit steps)) ends tells m is_read reads writes = absurd ends

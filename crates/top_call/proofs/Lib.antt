@@ -1,6 +1,8 @@
 pub mod Endings
 pub mod Excerpts
 pub mod Limits
+pub mod OptEndings
+pub mod OptLemmas
 mod ReadLemmas
 pub mod Mains
 pub mod Rows

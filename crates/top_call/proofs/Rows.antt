@@ -1,15 +1,19 @@
 -- What an ending of a row says.
 use Rattle.std.proofs.Common.{◌≡◌, ◌<◌, ℕ, List, Option, None, Some, Ok, Err, IsTrue, ◌⊎◌, inl, inr, refl, sym, ap, subst, ◌∙◌, arith}
 use Rattle.mc_num.specs.declared.op.Trap.{Trap}
+use Rattle.ir_types.specs.Program.{Program}
+use Rattle.ir_types.specs.WellFormed.{IsWellFormed}
 use Rattle.ir_reader.specs.Reading.{HasOneAnswer}
+use Rattle.profile.specs.Reading as profile
 use Rattle.top_call.specs.declared.ending.Done.{Done}
 use Rattle.top_call.specs.declared.ending.Done.TheVariants.{Written, Returned}
 use Rattle.top_call.specs.declared.ending.Stop.TheVariants.{Usage, Refused, ReadFault, WriteFault, OutOfMemory, Trapped, StepLimit}
 use Rattle.top_call.specs.Ending.{Ending, status_of}
-use Rattle.top_call.specs.Row.{Row, Print, Run}
+use Rattle.top_call.specs.Row.{Row, Print, Run, Opt}
 use Rattle.top_call.specs.World.{World, AreStill}
-use Rattle.top_call.specs.Top.{Ends, IsRefused, IsAccepted, IsTrapped, IsAtLimit, IsDone, IsPartlyDone, HasReadFault, HasWriteFault, IsQuiet, HasMoved}
-use Rattle.top_call.proofs.Endings.{print_not_done, print_complete}
+use Rattle.top_call.specs.Top.{Ends, IsAccepted, IsTrapped, IsAtLimit, IsDone, IsPartlyDone, HasReadFault, HasWriteFault, IsQuiet, HasMoved, IsRefused, AreRead, IsTooLarge}
+use Rattle.top_call.proofs.Endings.{print_not_done, print_complete, print_grown}
+use Rattle.top_call.proofs.OptEndings.{OneOptimised, opt_not_done, opt_complete, opt_grown}
 use Rattle.top_call.proofs.RunEndings.{run_not_done, run_complete, run_traps, run_ends_nothing, run_trapped, run_limited, run_moved, run_still}
 
 -- the ending of a status
@@ -49,40 +53,55 @@ neither n out (inl e) = absurd (grind (arith, out, e))
 neither n out (inr e) = absurd (grind (arith, out, e))
 
 module _ (one : (bytes : List ℕ) → HasOneAnswer bytes) (old new : World) (ending : Ending) where
-  pub not_done : (row : Option Row) → Ends row old new ending → IsTrue old.host.tells → IsRefused row old.host
+  pub not_done : OneOptimised → (one_profile : (m : Program) → IsWellFormed m → (bytes : List ℕ) → profile.HasOneAnswer m bytes) → (row : Option Row) → Ends row old new ending → IsTrue old.host.tells → IsRefused row old.host
       → (status_of ending ≡ 1) ⊎ (status_of ending ≡ 3) ⊎ (status_of ending ≡ 5)
-  not_done None ends tells refused = absurd refused
-  not_done (Some (Print input output)) ends tells refused = print_not_done one old.host input output new.host ending ends.0 tells refused.0 refused.1
-  not_done (Some (Run limit input profile)) ends tells refused = run_not_done one limit input profile old new ending ends tells refused.0 refused.1
+  not_done once one_profile None ends tells refused = absurd refused
+  not_done once one_profile (Some (Print input output)) ends tells refused = print_not_done one old.host input output new.host ending ends.0 tells refused.0 refused.1
+  not_done once one_profile (Some (Run limit input profile)) ends tells refused = run_not_done one limit input profile old new ending ends tells refused.0 refused.1
+  not_done once one_profile (Some (Opt files)) ends tells refused = opt_not_done one one_profile files old.host once new.host ending ends.0 tells refused
 
-  pub complete : (row : Option Row) → Ends row old new ending → IsTrue old.host.tells → IsAccepted row old
+  pub complete : (one_profile : (m : Program) → IsWellFormed m → (bytes : List ℕ) → profile.HasOneAnswer m bytes) → (row : Option Row) → Ends row old new ending → IsTrue old.host.tells → IsAccepted row old
       → ¬ (HasReadFault row old new) → ¬ (HasWriteFault row old new) → (status_of ending ≡ 0) ⊎ (status_of ending ≡ 5)
-  complete None ends tells accepted reads writes = absurd accepted
-  complete (Some (Print input output)) ends tells accepted reads writes =
+  complete one_profile None ends tells accepted reads writes = absurd accepted
+  complete one_profile (Some (Print input output)) ends tells accepted reads writes =
       print_complete one old.host input output new.host ending ends.0 tells accepted.0 accepted.1 reads writes
-  complete (Some (Run limit input profile)) ends tells accepted reads writes =
+  complete one_profile (Some (Run limit input profile)) ends tells accepted reads writes =
       run_complete one limit input profile old new ending ends tells accepted.0 accepted.1 reads writes
+  complete one_profile (Some (Opt files)) ends tells accepted reads writes = opt_complete one one_profile files old.host new.host ending ends.0 tells accepted reads writes
+
+  pub grown : (one_profile : (m : Program) → IsWellFormed m → (bytes : List ℕ) → profile.HasOneAnswer m bytes) → (row : Option Row) → Ends row old new ending → IsTrue old.host.tells → AreRead row old
+      → ¬ (HasReadFault row old new) → ¬ (HasWriteFault row old new) → (status_of ending ≡ 0) ⊎ (status_of ending ≡ 5) ⊎ ((status_of ending ≡ 1) × IsTooLarge row old)
+  grown one_profile None ends tells read reads writes = absurd read
+  grown one_profile (Some (Print input output)) ends tells read reads writes =
+      print_grown one old.host input output new.host ending ends.0 tells read.0 read.1 reads writes
+  grown one_profile (Some (Run limit input profile)) ends tells read reads writes = absurd read
+  grown one_profile (Some (Opt files)) ends tells read reads writes =
+      opt_grown one one_profile files old.host new.host ending ends.0 tells read.0 read.1 reads writes
 
   pub traps : (row : Option Row) → Ends row old new ending → IsTrue old.host.tells → IsTrue old.input.tells → IsTrapped row old
       → (status_of ending ≡ 7) ⊎ (status_of ending ≡ 3) ⊎ (status_of ending ≡ 4) ⊎ (status_of ending ≡ 5)
   traps None ends tells told trap = absurd trap
   traps (Some (Print input output)) ends tells told trap = absurd trap
+  traps (Some (Opt files)) ends tells told trap = absurd trap
   traps (Some (Run limit input profile)) ends tells told trap = run_traps one limit input profile old new ending ends tells told trap
 
   pub ends_nothing : (row : Option Row) → Ends row old new ending → IsTrue old.host.tells → IsTrue old.input.tells → IsAtLimit row old
       → (status_of ending ≡ 8) ⊎ (status_of ending ≡ 3) ⊎ (status_of ending ≡ 4) ⊎ (status_of ending ≡ 5)
   ends_nothing None ends tells told stands = absurd stands
   ends_nothing (Some (Print input output)) ends tells told stands = absurd stands
+  ends_nothing (Some (Opt files)) ends tells told stands = absurd stands
   ends_nothing (Some (Run limit input profile)) ends tells told stands = run_ends_nothing one limit input profile old new ending ends tells told stands
 
   pub moved : (row : Option Row) → Ends row old new ending → IsTrue old.host.tells → HasMoved row old new
   moved None ends tells = record { input = ap (λ (w : World). w.input) ends.1; out = ap (λ (w : World). w.out) ends.1 }
   moved (Some (Print input output)) ends tells = ends.1
+  moved (Some (Opt files)) ends tells = ends.1
   moved (Some (Run limit input profile)) ends tells = run_moved one limit input profile old new ending ends tells
 
   pub still : (row : Option Row) → Ends row old new ending → (status : ℕ) → status ≡ status_of ending → IsQuiet row old new status → AreStill old new
   still None ends status is quiet = record { input = ap (λ (w : World). w.input) ends.1; out = ap (λ (w : World). w.out) ends.1 }
   still (Some (Print input output)) ends status is quiet = ends.1
+  still (Some (Opt files)) ends status is quiet = ends.1
   still (Some (Run limit input profile)) ends status is quiet = run_still one limit input profile old new ending ends (by quiet)
     where
       by : IsQuiet (Some (Run limit input profile)) old new status → IsQuiet (Some (Run limit input profile)) old new (status_of ending)
@@ -96,11 +115,13 @@ module _ (old new : World) where
   trapped_so : (row : Option Row) (trap : Trap) → Ends row old new (Err (Trapped trap)) → IsTrue old.host.tells → IsTrue old.input.tells → IsTrapped row old
   trapped_so None trap ends tells told = absurd (let e = ap status_of ends.0 in omega (arith, e))
   trapped_so (Some (Print input output)) trap ends tells told = absurd ends.0
+  trapped_so (Some (Opt files)) trap ends tells told = absurd ends.0
   trapped_so (Some (Run limit input profile)) trap ends tells told = run_trapped limit input profile old new trap ends tells told
 
   limited_so : (row : Option Row) (steps : ℕ) → Ends row old new (Err (StepLimit steps)) → IsTrue old.host.tells → IsTrue old.input.tells → IsAtLimit row old
   limited_so None steps ends tells told = absurd (let e = ap status_of ends.0 in omega (arith, e))
   limited_so (Some (Print input output)) steps ends tells told = absurd ends.0
+  limited_so (Some (Opt files)) steps ends tells told = absurd ends.0
   limited_so (Some (Run limit input profile)) steps ends tells told = run_limited limit input profile old new steps ends tells told
 
   done_so : (row : Option Row) (done : Done) → Ends row old new (Ok done) → IsTrue old.host.tells → IsDone row old new
@@ -109,6 +130,8 @@ module _ (old new : World) where
   done_so (Some (Print input output)) (Returned value) ends tells = absurd ends.0
   done_so (Some (Run limit input profile)) Written ends tells = absurd ends
   done_so (Some (Run limit input profile)) (Returned value) ends tells = (value, ends tells)
+  done_so (Some (Opt files)) Written ends tells = ends.0 tells
+  done_so (Some (Opt files)) (Returned value) ends tells = absurd ends.0
 
   -- a write failed, or memory ran out
   unwritten_so : (row : Option Row) (name : _) → Ends row old new (Err (WriteFault name)) → IsTrue old.host.tells → IsPartlyDone row old new
@@ -116,11 +139,14 @@ module _ (old new : World) where
   unwritten_so (Some (Print input output)) name ends tells = inr (ends.0.2 tells)
   unwritten_so (Some (Run limit input profile)) name (inl fault) tells = inl fault.1
   unwritten_so (Some (Run limit input profile)) name (inr fault) tells = inr (name.now, (fault.2 tells).0, fault.0, (fault.2 tells).1)
+  unwritten_so (Some (Opt files)) name ((rose, inl fault), still) tells = let made = fault.2 tells in inr (made.0, made.1, inl (made.2, fault.1))
+  unwritten_so (Some (Opt files)) name ((rose, inr fault), still) tells = let made = fault.1 tells in inr (made.0, made.1, inr (made.2, made.3))
 
   memory_so : (row : Option Row) → Ends row old new (Err OutOfMemory) → IsTrue old.host.tells → IsPartlyDone row old new
   memory_so None ends tells = absurd (let e = ap status_of ends.0 in omega (arith, e))
   memory_so (Some (Print input output)) ends tells = ends.0 tells
   memory_so (Some (Run limit input profile)) ends tells = (ends tells).1
+  memory_so (Some (Opt files)) ends tells = ends.0 tells
 
   pub trapped : (row : Option Row) (ending : Ending) → Ends row old new ending → (status : ℕ) → status ≡ status_of ending → IsTrue old.host.tells → IsTrue old.input.tells → status ≡ 7 → IsTrapped row old
   trapped row ending ends status is tells told seven =

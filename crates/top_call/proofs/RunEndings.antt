@@ -16,7 +16,7 @@ use Rattle.interp.specs.Run.{EndsWith}
 use Rattle.interp.specs.declared.ends.RunEnd.{RunEnd}
 use Rattle.interp.specs.declared.ends.RunEnd.TheVariants as runs
 use Rattle.top_call.specs.declared.ending.Problem.{Problem}
-use Rattle.top_call.specs.declared.ending.Problem.TheVariants.{TooLong, Text, Grown, NoMain}
+use Rattle.top_call.specs.declared.ending.Problem.TheVariants.{TooLong, Text, Grown, NoMain, LongProfile, BadProfile}
 use Rattle.top_call.specs.declared.ending.Done.TheVariants.{Written, Returned}
 use Rattle.top_call.specs.declared.ending.Stop.TheVariants.{Usage, Refused, ReadFault, WriteFault, OutOfMemory, Trapped, StepLimit}
 use Rattle.top_call.specs.Ending.{Ending, status_of}
@@ -81,6 +81,8 @@ module _ (one : (bytes : List ℕ) → HasOneAnswer bytes) (limit : ℕ) (input 
   no_problem result run some TooLong has = not_long one old.host input run.program run.reads has
   no_problem result run some (Text refusal excerpt) has = not_refused one old.host input run.program refusal excerpt run.reads has
   no_problem result run some Grown has = absurd has
+  no_problem result run some LongProfile has = absurd has
+  no_problem result run some (BadProfile problem) has = absurd has
   no_problem result run some NoMain has =
       let P : Program → Type 0 = λ m. IsSome (main_of m) in
       no_main has.0 has.2 (subst P (same_program one old.host input run.program has.0 run.reads has.1) some)
@@ -90,6 +92,8 @@ module _ (one : (bytes : List ℕ) → HasOneAnswer bytes) (limit : ℕ) (input 
   runs_without_problem progress to TooLong has = not_long one old.host input to.0 to.1 has
   runs_without_problem progress to (Text refusal excerpt) has = not_refused one old.host input to.0 refusal excerpt to.1 has
   runs_without_problem progress to Grown has = absurd has
+  runs_without_problem progress to LongProfile has = absurd has
+  runs_without_problem progress to (BadProfile problem) has = absurd has
   runs_without_problem progress to NoMain has =
       let P : Program → Type 0 = λ m. main_of m ≡ None in
       no_run to.0 old.input.left limit progress (subst P (same_program one old.host input has.0 to.0 has.1 to.1) has.2) to.2

@@ -14,7 +14,7 @@ use Rattle.interp.specs.Run.{Ran}
 use Rattle.interp.specs.declared.ends.RunEnd.{RunEnd}
 use Rattle.interp.specs.declared.ends.RunEnd.TheVariants as runs
 use Rattle.top_call.specs.declared.ending.Problem.{Problem}
-use Rattle.top_call.specs.declared.ending.Problem.TheVariants.{TooLong, Text, Grown, NoMain}
+use Rattle.top_call.specs.declared.ending.Problem.TheVariants.{TooLong, Text, Grown, NoMain, LongProfile, BadProfile}
 use Rattle.top_call.specs.declared.ending.Done.TheVariants.{Returned}
 use Rattle.top_call.specs.declared.ending.Stop.{Stop}
 use Rattle.top_call.specs.declared.ending.Stop.TheVariants.{Usage, Refused, ReadFault, WriteFault, OutOfMemory, Trapped, StepLimit}
@@ -25,7 +25,7 @@ use Rattle.top_call.specs.Stops.{StopsReading, StopsParsing, StopsRunning, Stops
 
 -- the file was not read
 pub read_stopped : (limit : ℕ) (input : List ℕ) (profile : Option (List ℕ)) (old new : HostState) (source : SourceState) (sink : SinkState) (stop : Stop)
-    → StopsReading input old new stop → OnlyReads old new → RunEnds limit input profile (world old source sink) (world new source sink) (Err stop)
+    → StopsReading input TooLong old new stop → OnlyReads old new → RunEnds limit input profile (world old source sink) (world new source sink) (Err stop)
 read_stopped limit input profile old new source sink (Refused file problem) stops reads =
     let P : Problem → Type 0 = λ p. IsTrue old.tells → HasRunProblem old input p in
     (stops.0, reads.files, record { input = refl; out = refl }, subst P (sym stops.1) stops.2)
@@ -50,6 +50,8 @@ module _ (limit : ℕ) (input : List ℕ) (profile : Option (List ℕ)) (before 
       (stops.0, read.files, record { input = refl; out = refl }, λ tells. (bytes, holds tells, short, stops.1.0, stops.1.1))
   parse_stopped source sink (Refused file Grown) stops = absurd stops.1
   parse_stopped source sink (Refused file NoMain) stops = absurd stops.1
+  parse_stopped source sink (Refused file LongProfile) stops = absurd stops.1
+  parse_stopped source sink (Refused file (BadProfile problem)) stops = absurd stops.1
   parse_stopped source sink OutOfMemory stops = λ tells. (inl (record { input = refl; out = refl }), inl read.files)
   parse_stopped source sink Usage stops = absurd stops
   parse_stopped source sink (ReadFault name) stops = absurd stops

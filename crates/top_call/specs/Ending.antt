@@ -7,11 +7,12 @@ use Rattle.mc_num.specs.declared.op.Trap.{Trap}
 use Rattle.mc_num.specs.declared.op.Trap.TheVariants.{DivZero, DivOverflow, Unreachable}
 use Rattle.ir_printer.specs.Text.{constant_text}
 use Rattle.top_call.specs.declared.ending.Problem.{Problem}
-use Rattle.top_call.specs.declared.ending.Problem.TheVariants.{TooLong, Text, Grown, NoMain}
+use Rattle.top_call.specs.declared.ending.Problem.TheVariants.{TooLong, Text, Grown, NoMain, LongProfile, BadProfile}
 use Rattle.top_call.specs.declared.ending.Done.{Done}
 use Rattle.top_call.specs.declared.ending.Done.TheVariants.{Written, Returned}
 use Rattle.top_call.specs.declared.ending.Stop.{Stop}
 use Rattle.top_call.specs.Refused.{refused_text}
+use Rattle.top_call.specs.RefusedProfile.{refused_profile_text}
 use Rattle.top_call.specs.declared.ending.Stop.TheVariants.{Usage, Refused, ReadFault, WriteFault, OutOfMemory, Trapped, StepLimit}
 
 -- what is done, or the reason why the call stopped
@@ -35,6 +36,8 @@ refusal_text TooLong = codes ": E1 TooLong\n"
 refusal_text (Text refusal excerpt) = refused_text refusal excerpt.now
 refusal_text Grown = codes ": E17 Grown\n"
 refusal_text NoMain = codes ": E18 NoMain\n"
+refusal_text LongProfile = codes ": P1 TooLong\n"
+refusal_text (BadProfile problem) = refused_profile_text problem
 
 -- a space, and the value as the canonical text spells it; nothing where there is no value
 abbrev pub returned_text : Option (Width × ℕ) → List ℕ

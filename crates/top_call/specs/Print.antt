@@ -3,7 +3,7 @@ use Rattle.std.specs.Prelude.{◌≡◌, ◌≢◌, ◌⊎◌, ◌^◌, ◌<◌,
 use Rattle.mc_host.specs.Faults.{Rose}
 use Rattle.mc_host.specs.Host.{HostState, IsBeforeOrPart, KeepsRights}
 use Rattle.top_call.specs.declared.ending.Problem.{Problem}
-use Rattle.top_call.specs.declared.ending.Problem.TheVariants.{TooLong, Text, Grown, NoMain}
+use Rattle.top_call.specs.declared.ending.Problem.TheVariants.{TooLong, Text, Grown, NoMain, LongProfile, BadProfile}
 use Rattle.top_call.specs.declared.ending.Done.TheVariants.{Written}
 use Rattle.top_call.specs.declared.ending.Stop.TheVariants.{Refused, ReadFault, WriteFault, OutOfMemory}
 use Rattle.top_call.specs.Ending.{Ending}
@@ -39,6 +39,8 @@ HasProblem host input (Text refusal excerpt) =
     (content : List ℕ) × (host.file input ≡ Some content) × (length content ≤ text_limit)
     × Refuses content refusal × (excerpt.now ≡ excerpt_at content (place_of refusal))
 HasProblem host input NoMain = ⊥
+HasProblem host input LongProfile = ⊥
+HasProblem host input (BadProfile problem) = ⊥
 HasProblem host input Grown = (program : Program) × ReadsAs host input program × (text_limit < length (text_of program))
 
 -- the file that is written is as before, or holds a first part of its text, which may be all of it

@@ -8,11 +8,19 @@ use Rattle.std.specs.Str.{bytes_eq}
 use Rattle.std.specs.Str.Parse.{digits_value}
 use Rattle.std.specs.String.{string_bytes}
 
+-- the files of `opt`: the module and its profile, the optimised module and its certificate
+pub record OptFiles : Type 0 where
+  pub input : List ℕ
+  pub profile : List ℕ
+  pub output : List ℕ
+  pub certificate : List ℕ
+
 -- a command with its file names
 pub data Row : Type 0 where
   Print : (input output : List ℕ) → Row
   -- how many steps at most, the file of the module, and the file of the profile, if one is asked for
   Run : (limit : ℕ) (input : List ℕ) (profile : Option (List ℕ)) → Row
+  Opt : (files : OptFiles) → Row
 
 -- the bytes of each word
 abbrev pub texts : List (String Global) → List (List ℕ)
@@ -38,10 +46,18 @@ abbrev pub run_row : List (List ℕ) → Option Row
 run_row (limit ∷ input ∷ profile ∷ []) = option_map (λ n. Run n input (profile_of profile)) (limit_of limit)
 run_row _ = None
 
+-- `opt IN PROF OUT CERT`, where OUT and CERT are two files
+abbrev pub opt_row : List (List ℕ) → Option Row
+opt_row (input ∷ profile ∷ output ∷ certificate ∷ []) =
+    if bytes_eq output certificate then None
+    else Some (Opt (record { input = input; profile = profile; output = output; certificate = certificate }))
+opt_row _ = None
+
 -- the row that the words fit, if any
 abbrev pub row_of : List (List ℕ) → Option Row
 row_of [] = None
 row_of (command ∷ words) =
     if bytes_eq command (codes "print") then print_row words
     else (if bytes_eq command (codes "run") then run_row words
-    else None)
+    else (if bytes_eq command (codes "opt") then opt_row words
+    else None))

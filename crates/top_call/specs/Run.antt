@@ -18,7 +18,7 @@ use Rattle.interp.specs.Run.{Ran}
 use Rattle.interp.specs.declared.ends.RunEnd.{RunEnd}
 use Rattle.interp.specs.declared.ends.RunEnd.TheVariants as runs
 use Rattle.top_call.specs.declared.ending.Problem.{Problem}
-use Rattle.top_call.specs.declared.ending.Problem.TheVariants.{TooLong, Text, Grown, NoMain}
+use Rattle.top_call.specs.declared.ending.Problem.TheVariants.{TooLong, Text, Grown, NoMain, LongProfile, BadProfile}
 use Rattle.top_call.specs.declared.ending.Done.TheVariants.{Returned}
 use Rattle.top_call.specs.declared.ending.Stop.TheVariants.{Refused, ReadFault, WriteFault, OutOfMemory, Trapped, StepLimit}
 use Rattle.top_call.specs.Ending.{Ending}
@@ -31,6 +31,8 @@ use Rattle.top_call.specs.World.{World, AreStill}
 abbrev pub HasRunProblem : HostState → List ℕ → Problem → Type 0
 HasRunProblem host input NoMain = (program : Program) × ReadsAs host input program × (main_of program ≡ None)
 HasRunProblem host input Grown = ⊥
+HasRunProblem host input LongProfile = ⊥
+HasRunProblem host input (BadProfile problem) = ⊥
 HasRunProblem host input TooLong = HasProblem host input TooLong
 HasRunProblem host input (Text refusal excerpt) = HasProblem host input (Text refusal excerpt)
 

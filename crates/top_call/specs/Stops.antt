@@ -3,26 +3,30 @@ use Rattle.std.specs.Prelude.{◌≡◌, ◌⊎◌, ◌<◌, ℕ, Option, Some, 
 use Rattle.mc_host.specs.Faults.{Rose}
 use Rattle.mc_host.specs.Host.{HostState, IsBeforeOrPart}
 use Rattle.top_call.specs.declared.ending.Problem.{Problem}
-use Rattle.top_call.specs.declared.ending.Problem.TheVariants.{TooLong, Text, Grown, NoMain}
+use Rattle.top_call.specs.declared.ending.Problem.TheVariants.{TooLong, Text, Grown, NoMain, BadProfile}
 use Rattle.top_call.specs.declared.ending.Stop.{Stop}
 use Rattle.top_call.specs.declared.ending.Stop.TheVariants.{Usage, Refused, ReadFault, WriteFault, OutOfMemory, Trapped, StepLimit}
 use Rattle.top_call.specs.Print.{HasProblem, text_limit}
 use Rattle.ir_types.specs.Program.{Program}
 use Rattle.ir_printer.specs.Text.{text_of}
 use Rattle.ir_reader.specs.Reading.{Refuses}
+use Rattle.ir_machine.specs.Same.{Same}
 use Rattle.mc_num.specs.declared.memory.NoMemory.{NoMemory}
 use Rattle.interp.specs.Run.{Ran}
 use Rattle.interp.specs.declared.ends.RunEnd.TheVariants as runs
 use Rattle.top_call.specs.World.{World}
+use Rattle.top_call.specs.Row.{OptFiles}
+use Rattle.optimise.specs.Optimised.{IsOptimised}
+use Rattle.top_call.specs.Opt.{IsBadProfile, IsFit, IsGrown, LeavesParts, certificate_text}
 use Rattle.top_call.specs.Refused.{place_of, excerpt_at}
 
--- why a file was not read
-abbrev pub StopsReading : List ℕ → HostState → HostState → Stop → Type 0
-StopsReading name old new (Refused file problem) =
-    (file.now ≡ name) × (problem ≡ TooLong) × (IsTrue old.tells → HasProblem old name TooLong)
-StopsReading name old new (ReadFault file) = (file.now ≡ name) × Rose old.read_faults new.read_faults
-StopsReading name old new OutOfMemory = Unit {0}
-StopsReading name old new _ = ⊥
+-- why a file was not read, where `long` is its problem if it is too long
+abbrev pub StopsReading : List ℕ → (long : Problem) → HostState → HostState → Stop → Type 0
+StopsReading name long old new (Refused file problem) =
+    (file.now ≡ name) × (problem ≡ long) × (IsTrue old.tells → HasProblem old name TooLong)
+StopsReading name long old new (ReadFault file) = (file.now ≡ name) × Rose old.read_faults new.read_faults
+StopsReading name long old new OutOfMemory = Unit {0}
+StopsReading name long old new _ = ⊥
 
 -- the text is refused so, told with its bytes at that place
 abbrev pub IsRefusedText : List ℕ → Problem → Type 0
@@ -70,3 +74,35 @@ StopsProfiling profile text old new (WriteFault file) =
 StopsProfiling profile text old new OutOfMemory =
     (new.file ≡ old.file) ⊎ ((name : List ℕ) × (profile ≡ Some name) × (IsTrue old.tells → IsBeforeOrPart name text old new))
 StopsProfiling profile text old new _ = ⊥
+
+-- why the bytes of a profile gave no counts
+abbrev pub StopsCounting : (name content : List ℕ) → Program → Stop → Type 0
+StopsCounting name content program (Refused file (BadProfile problem)) = (file.now ≡ name) × IsBadProfile program content problem
+StopsCounting name content program OutOfMemory = Unit {0}
+StopsCounting name content program _ = ⊥
+
+-- the text is that of an optimised module that isn't too large, and what is read of it does what the module does
+pub record IsOptimisedText (program : Program) (text : List ℕ) : Type 0 where
+  pub program' : Program
+  pub optimised : IsOptimised program program'
+  pub is_text : text ≡ text_of program'
+  pub fit : IsFit program'
+  pub again : Same program fit.back.again
+
+-- why there is no text of an optimised module
+abbrev pub StopsOptimising : (name : List ℕ) → Program → Stop → Type 0
+StopsOptimising name program (Refused file problem) =
+    (file.now ≡ name) × (problem ≡ Grown) × ((program' : Program) × IsOptimised program program' × IsGrown program')
+StopsOptimising name program OutOfMemory = Unit {0}
+StopsOptimising name program _ = ⊥
+
+-- why OUT with this text and CERT were not both written, and what is left
+abbrev pub StopsWritingBoth : OptFiles → (text : List ℕ) → HostState → HostState → Stop → Type 0
+StopsWritingBoth files text old new (WriteFault name) =
+    Rose old.write_faults new.write_faults
+    × (((name.now ≡ files.output) × (new.file files.certificate ≡ old.file files.certificate)
+    × (IsTrue old.tells → IsBeforeOrPart files.output text old new))
+    ⊎ ((name.now ≡ files.certificate)
+    × (IsTrue old.tells → (new.file files.output ≡ Some text) × IsBeforeOrPart files.certificate certificate_text old new)))
+StopsWritingBoth files text old new OutOfMemory = IsTrue old.tells → LeavesParts files text old new
+StopsWritingBoth files text old new _ = ⊥

@@ -1,8 +1,8 @@
 //! The words after the program's name.
 ghost use Rattle.std.specs.Prelude.{◌≡◌, IfSome};
 ghost use Rattle.std.specs.Option.{option_map};
-ghost use Rattle.top_call.specs.Row.{row_of, print_row, run_row, limit_of, profile_of, texts};
-ghost use Rattle.top_call.specs.Command.{row_of_command, IsWithinSteps};
+ghost use Rattle.top_call.specs.Row.{row_of, print_row, run_row, opt_row, limit_of, profile_of, texts};
+ghost use Rattle.top_call.specs.Command.{row_of_command, IsAllowed};
 
 use crate::limit::limit_of;
 
@@ -18,6 +18,8 @@ pub(crate) enum Command<'a> {
     },
     /// Runs `main` of a file.
     Run(Asked<'a>),
+    /// Optimises a module by its profile.
+    Opt(OptNames<'a>),
 }
 
 /// What is asked of a run.
@@ -29,6 +31,19 @@ pub(crate) struct Asked<'a> {
     pub(crate) input: &'a str,
     /// The file that the profile is written to, if one is asked for.
     pub(crate) profile: Option<&'a str>,
+}
+
+/// The files of `opt`. The two that are written differ.
+#[derive(Clone, Copy, Debug, PartialEq, Eq)]
+pub(crate) struct OptNames<'a> {
+    /// The file of the module.
+    pub(crate) input: &'a str,
+    /// The file of its profile.
+    pub(crate) profile: &'a str,
+    /// The file that the optimised module is written to.
+    pub(crate) output: &'a str,
+    /// The file that its certificate is written to.
+    pub(crate) certificate: &'a str,
 }
 
 fn print_command(words: &[String]) -> Option<Command<'_>>
@@ -49,7 +64,7 @@ fn profile_of(word: &str) -> Option<&str>
 
 fn run_command(words: &[String]) -> Option<Command<'_>>
     ensures row { option_map row_of_command result ≡ run_row (texts words.now) }
-    ensures limits { IfSome result IsWithinSteps }
+    ensures allowed { IfSome result IsAllowed }
 {
     match words {
         [limit, input, profile] => Some(Command::Run(Asked {
@@ -61,15 +76,33 @@ fn run_command(words: &[String]) -> Option<Command<'_>>
     }
 }
 
+fn opt_command(words: &[String]) -> Option<Command<'_>>
+    ensures row { option_map row_of_command result ≡ opt_row (texts words.now) }
+    ensures allowed { IfSome result IsAllowed }
+{
+    match words {
+        [input, profile, output, certificate] if output != certificate => {
+            Some(Command::Opt(OptNames {
+                input,
+                profile,
+                output,
+                certificate,
+            }))
+        }
+        _ => None,
+    }
+}
+
 /// The command that the words fit, if any.
 pub(crate) fn command_of(words: &[String]) -> Option<Command<'_>>
     ensures row { option_map row_of_command result ≡ row_of (texts words.now) }
-    ensures limits { IfSome result IsWithinSteps }
+    ensures allowed { IfSome result IsAllowed }
 {
     let (command, words) = words.split_first()?;
     match command.as_str() {
         "print" => print_command(words),
         "run" => run_command(words),
+        "opt" => opt_command(words),
         _ => None,
     }
 }

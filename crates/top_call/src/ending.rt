@@ -5,6 +5,21 @@ ghost use Rattle.top_call.specs.Ending.{status_of};
 use ir_reader::Refusal;
 use mc_num::{Trap, Width};
 
+/// Why a profile is refused. Lines are counted from 1, functions that have blocks and blocks from 0.
+#[derive(Clone, Copy, Debug, PartialEq, Eq)]
+pub enum ProfileProblem {
+    /// The first line that is of no form.
+    Form(u32),
+    /// The first line that isn't the module's, or that is missing.
+    Shape(u32),
+    /// The first function and reached block out of balance, with what enters and what leaves.
+    Unbalanced(u32, u32, u128, u128),
+    /// The first function and unreached block that a count leaves.
+    Unreached(u32, u32),
+    /// All counts sum to 2^62 or more.
+    Total,
+}
+
 /// Why a file is refused.
 #[derive(Clone, Copy, Debug, PartialEq, Eq)]
 pub enum Problem<'a> {
@@ -17,16 +32,20 @@ pub enum Problem<'a> {
         /// The text's bytes at that place, at most 40 of them.
         excerpt: &'a [u8],
     },
-    /// The text for the file that is written would have more than 2^26 bytes.
+    /// The text for the file that is written would have more than 2^26 bytes, or a function in it more than it may.
     Grown,
     /// It has no defined function `main` without parameters.
     NoMain,
+    /// The profile has more than 2^26 bytes.
+    LongProfile,
+    /// The profile is refused.
+    BadProfile(ProfileProblem),
 }
 
 /// What a call did.
 #[derive(Clone, Copy, Debug, PartialEq, Eq)]
 pub enum Done {
-    /// It wrote the file.
+    /// It wrote its files.
     Written,
     /// `main` returned this value with its width, or none.
     Returned(Option<(Width, u64)>),

@@ -5,10 +5,12 @@ mod command;
 mod ending;
 mod limit;
 mod lines;
+mod opt;
 mod print;
+mod profile_lines;
 mod refused;
 mod run;
 mod top;
 
-pub use ending::{Done, Problem, Stop};
+pub use ending::{Done, Problem, ProfileProblem, Stop};
 pub use top::mcpre;

@@ -7,6 +7,7 @@ ghost use Rattle.top_call.specs.Lines.{Gains};
 ghost use Rattle.top_call.specs.Refused.{spaced, cause_text, place_text, refused_text};
 
 use crate::ending::{Done, Problem, Stop, status_of};
+use crate::profile_lines::put_refused_profile;
 use crate::refused::{advice_text, hex_text, place_of, rule_text, space_before};
 use ir_printer::constant_to;
 use ir_reader::Refusal;
@@ -72,6 +73,8 @@ fn put_problem<S: Sink>(sink: &mut S, problem: Problem<'_>) -> Result<(), Failed
         Problem::Text { refusal, excerpt } => put_refused(sink, refusal, excerpt),
         Problem::Grown => sink.put(b": E17 Grown\n"),
         Problem::NoMain => sink.put(b": E18 NoMain\n"),
+        Problem::LongProfile => sink.put(b": P1 TooLong\n"),
+        Problem::BadProfile(problem) => put_refused_profile(sink, problem),
     }
 }
 

@@ -1,9 +1,10 @@
 //! The command `print`: reads a file, and writes its text to another.
-ghost use Rattle.std.specs.Prelude.{◌≡◌, ◌≤◌, length, IsTrue, IfOk, OnOk, OnErr, IfErr, Some};
+ghost use Rattle.std.specs.Prelude.{◌≡◌, ◌≤◌, length, All, IsTrue, IfOk, OnOk, OnErr, IfErr, Some};
 ghost use Rattle.mc_host.specs.Host.{HostState, OnlyReads, OnlyWrites, IsBeforeOrPart};
 ghost use Rattle.top_call.specs.Lines.{Answers};
 ghost use Rattle.top_call.specs.Print.{text_limit, PrintEnds, OnlyPrints};
 ghost use Rattle.top_call.specs.Stops.{StopsReading, StopsParsing, StopsPrinting, StopsWriting};
+ghost use Rattle.ir_types.specs.Limits.{IsWithinLimits};
 ghost use Rattle.ir_printer.specs.Text.{text_of};
 ghost use Rattle.ir_reader.specs.Reading.{Reads, ReadsBack};
 
@@ -18,22 +19,23 @@ use std::alloc::Global;
 /// How many bytes a text has at most.
 const TEXT_LIMIT: usize = 1 << 26;
 
-/// Reads a file that has at most as many bytes as a text may have.
+/// Reads a file that has at most as many bytes as a text may have; `long` is its problem if it has more.
 pub(crate) fn read_short<'a, H: Host>(
     alloc: Global,
     host: &mut H,
     name: &'a str,
+    long: Problem<'a>,
 ) -> Result<Vec<u8>, Stop<'a>>
     requires { IsTrue ((H.state host.old).may_read name.now) }
     ensures read { IfOk result (λ bytes. IsTrue (H.state host.old).tells → (H.state host.old).file name.now ≡ Some bytes.items) }
     ensures short { IfOk result (λ bytes. length bytes.items ≤ text_limit) }
-    ensures stops { IfErr result (StopsReading name.now (H.state host.old) (H.state host.new)) }
+    ensures stops { IfErr result (StopsReading name.now long.entry (H.state host.old) (H.state host.new)) }
     ensures rest { OnlyReads (H.state host.old) (H.state host.new) }
 {
     match host.read(alloc, name, TEXT_LIMIT as u64) {
         Ok(bytes) if bytes.len() > TEXT_LIMIT => Err(Stop::Refused {
             file: name,
-            problem: Problem::TooLong,
+            problem: long,
         }),
         Ok(bytes) => Ok(bytes),
         Err(HostError::Failed) => Err(Stop::ReadFault { name }),
@@ -50,6 +52,7 @@ pub(crate) fn parsed<'a>(
     requires { length source.now ≤ text_limit }
     ensures read { IfOk result (Reads source.now) }
     ensures back { IfOk result ReadsBack }
+    ensures limits { IfOk result (λ m. All IsWithinLimits m.functions) }
     ensures stops { IfErr result (StopsParsing file.now source.now) }
 {
     match read(alloc, source) {
@@ -64,7 +67,11 @@ pub(crate) fn parsed<'a>(
 }
 
 /// The text of a module.
-fn printed<'a>(alloc: Global, file: &'a str, program: &Module<'_>) -> Result<Vec<u8>, Stop<'a>>
+pub(crate) fn printed<'a>(
+    alloc: Global,
+    file: &'a str,
+    program: &Module<'_>,
+) -> Result<Vec<u8>, Stop<'a>>
     ensures text { IfOk result (λ text. text.items ≡ text_of program.now) }
     ensures short { IfOk result (λ text. length text.items ≤ text_limit) }
     ensures stops { IfErr result (StopsPrinting file.now program.now) }
@@ -136,7 +143,7 @@ pub(crate) fn print_file<H: Host, E: Sink>(
     ensures ends { Answers (E.state err.old) (E.state err.new) result (PrintEnds input.now output.now (H.state host.old) (H.state host.new)) }
     ensures rest { OnlyPrints output.now (H.state host.old) (H.state host.new) }
 {
-    match read_short(alloc, host, input) {
+    match read_short(alloc, host, input, Problem::TooLong) {
         Ok(source) => {
             let ending = print_source(alloc, host, input, output, &source);
             finish(err, ending)

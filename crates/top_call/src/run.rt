@@ -135,7 +135,7 @@ pub(crate) fn run_file<H: Host, I: Source, O: Sink, E: Sink>(
         (world (H.state host.old) (I.state input.old) (O.state out.old)) (world (H.state host.new) (I.state input.new) (O.state out.new))) }
     ensures rest { OnlyProfiles (option_map (λ name. name.now) asked.entry.profile) (H.state host.old) (H.state host.new) }
 {
-    match read_short(alloc, host, asked.input) {
+    match read_short(alloc, host, asked.input, Problem::TooLong) {
         Ok(source) => {
             let ending = run_source(alloc, host, input, out, asked, &source);
             finish(err, ending)

@@ -6,7 +6,15 @@ mod accepted;
 #[cfg(test)]
 mod limits;
 #[cfg(test)]
+mod opt_rows;
+#[cfg(test)]
+mod opt_texts;
+#[cfg(test)]
+mod outcomes;
+#[cfg(test)]
 mod prefixes;
+#[cfg(test)]
+mod print_rows;
 #[cfg(test)]
 mod refusals;
 #[cfg(test)]
@@ -14,4 +22,4 @@ mod run_rows;
 #[cfg(test)]
 mod runs;
 #[cfg(test)]
-mod tests;
+mod tables;

@@ -1,11 +1,10 @@
-//! The rows of `run`, over files and streams in memory, with ample memory.
+//! The rows of `run`.
 
-use crate::runs::{host_of, owned};
-use mc_host::{MemHost, MemSink, MemSource, Source};
+use crate::outcomes::{Given, expect};
+use crate::tables::{halves, pieces, rows};
 use std::alloc::Global;
 use std::process::Abort;
 use std::test::Fail;
-use top_call::mcpre;
 
 /// What goes round forever.
 const LOOP: &str = "define void @main() {
@@ -26,7 +25,7 @@ define i32 @main() {
 ";
 
 /// What reads two bytes and gives their sum, which it works out twice where the first one is an A.
-const ADDS: &str = "declare i32 @getchar()
+pub(crate) const ADDS: &str = "declare i32 @getchar()
 
 define i32 @main() {
 entry:
@@ -57,7 +56,7 @@ join:
 ";
 
 /// What gives a global and one, after a call that stored to it.
-const STORES: &str = "@g = dso_local global i32 5, align 4
+pub(crate) const STORES: &str = "@g = dso_local global i32 5, align 4
 define i32 @main() {
   %1 = load i32, ptr @g, align 4
   %2 = add nsw i32 %1, 1
@@ -117,7 +116,7 @@ define i32 @main() {
 ";
 
 /// What takes one of two slots to one block.
-const BRANCHES: &str = "define i1 @main() {
+pub(crate) const BRANCHES: &str = "define i1 @main() {
 entry:
   br i1 true, label %x, label %x
 x:
@@ -157,622 +156,350 @@ define i64 @main() {
 }
 ";
 
-/// A run of a program for at most so many steps over an input, and what comes of it.
-#[derive(Clone, Copy, Debug)]
-struct Row {
-    steps: &'static str,
-    program: &'static str,
-    input: &'static str,
-    status: u8,
-    line: &'static str,
-    shown: &'static [u8],
-    left: &'static str,
-    profile: &'static str,
-}
+/// Programs with runs, each for at most so many steps, and over an input where there is one behind ` < `: what the run
+/// comes to where it writes its profile into a.prof.
+const RUNS: &[(&str, &str)] = &[
+    (
+        ADDS,
+        "
+| 16 < ABC => 0 mcpre: main returned 131
 
-/// Runs that return.
-const RETURNS: &[Row] = &[
-    Row {
-        steps: "16",
-        program: ADDS,
-        input: "ABC",
-        status: 0,
-        line: "mcpre: main returned 131\n",
-        shown: b"",
-        left: "C",
-        profile: "mcpre-profile 1\nfunc 0 1\nblock 0 1 0\nblock 1 1\nblock 2 0\nblock 3\n",
-    },
-    Row {
-        steps: "12",
-        program: ADDS,
-        input: "BAC",
-        status: 0,
-        line: "mcpre: main returned 131\n",
-        shown: b"",
-        left: "C",
-        profile: "mcpre-profile 1\nfunc 0 1\nblock 0 0 1\nblock 1 0\nblock 2 1\nblock 3\n",
-    },
-    Row {
-        steps: "4611686018427387903",
-        program: ADDS,
-        input: "",
-        status: 0,
-        line: "mcpre: main returned -2\n",
-        shown: b"",
-        left: "",
-        profile: "mcpre-profile 1\nfunc 0 1\nblock 0 0 1\nblock 1 0\nblock 2 1\nblock 3\n",
-    },
-    Row {
-        steps: "10",
-        program: STORES,
-        input: "A",
-        status: 0,
-        line: "mcpre: main returned 8\n",
-        shown: b"",
-        left: "A",
-        profile: "mcpre-profile 1\nfunc 0 1\nblock 0\nfunc 1 1\nblock 0\n",
-    },
-    Row {
-        steps: "20",
-        program: ECHOES,
-        input: "hi",
-        status: 0,
-        line: "mcpre: main returned -1\n",
-        shown: b"hi",
-        left: "",
-        profile: "mcpre-profile 1\nfunc 0 1\nblock 0 1\nblock 1 1 2\nblock 2 2\nblock 3\n",
-    },
-    Row {
-        steps: "47",
-        program: CALLS_ITSELF,
-        input: "",
-        status: 0,
-        line: "mcpre: main returned 120\n",
-        shown: b"",
-        left: "",
-        profile: "mcpre-profile 1\nfunc 0 6\nblock 0 1 5\nblock 1\nblock 2\nfunc 1 1\nblock 0\n",
-    },
-    Row {
-        steps: "2",
-        program: BRANCHES,
-        input: "",
-        status: 0,
-        line: "mcpre: main returned true\n",
-        shown: b"",
-        left: "",
-        profile: "mcpre-profile 1\nfunc 0 1\nblock 0 1 0\nblock 1\n",
-    },
-    Row {
-        steps: "3",
-        program: SWITCHES,
-        input: "A",
-        status: 0,
-        line: "mcpre: main returned -7\n",
-        shown: b"",
-        left: "",
-        profile: "mcpre-profile 1\nfunc 0 1\nblock 0 0 1 0 0\nblock 1\nblock 2\nblock 3 0 0\n",
-    },
-    Row {
-        steps: "3",
-        program: SWITCHES,
-        input: "B",
-        status: 0,
-        line: "mcpre: main returned -32768\n",
-        shown: b"",
-        left: "",
-        profile: "mcpre-profile 1\nfunc 0 1\nblock 0 0 0 1 0\nblock 1\nblock 2\nblock 3 0 0\n",
-    },
-    Row {
-        steps: "3",
-        program: SWITCHES,
-        input: "C!",
-        status: 0,
-        line: "mcpre: main returned -7\n",
-        shown: b"",
-        left: "!",
-        profile: "mcpre-profile 1\nfunc 0 1\nblock 0 1 0 0 0\nblock 1\nblock 2\nblock 3 0 0\n",
-    },
-    Row {
-        steps: "3",
-        program: SWITCHES,
-        input: "",
-        status: 0,
-        line: "mcpre: main returned -32768\n",
-        shown: b"",
-        left: "",
-        profile: "mcpre-profile 1\nfunc 0 1\nblock 0 0 0 0 1\nblock 1\nblock 2\nblock 3 0 0\n",
-    },
-    Row {
-        steps: "10",
-        program: SHOWS_BYTES,
-        input: "",
-        status: 0,
-        line: "mcpre: main returned -72057594037927936\n",
-        shown: b"A\xff",
-        left: "",
-        profile: "mcpre-profile 1\nfunc 0 2\nblock 0\nfunc 1 1\nblock 0\n",
-    },
-    Row {
-        steps: "1",
-        program: "define void @main(){ret void}",
-        input: "",
-        status: 0,
-        line: "mcpre: main returned\n",
-        shown: b"",
-        left: "",
-        profile: "mcpre-profile 1\nfunc 0 1\nblock 0\n",
-    },
-    Row {
-        steps: "1",
-        program: "define i1 @main(){ret i1 undef}",
-        input: "",
-        status: 0,
-        line: "mcpre: main returned false\n",
-        shown: b"",
-        left: "",
-        profile: "mcpre-profile 1\nfunc 0 1\nblock 0\n",
-    },
-];
+- left C
+- a.prof mcpre-profile 1
+func 0 1
+block 0 1 0
+block 1 1
+block 2 0
+block 3
 
-/// Runs that trap or come to their last step, which write no profile.
-const STOPS: &[Row] = &[
-    Row {
-        steps: "10",
-        program: LOOP,
-        input: "",
-        status: 8,
-        line: "mcpre: step limit 10\n",
-        shown: b"",
-        left: "",
-        profile: "",
-    },
-    Row {
-        steps: "15",
-        program: ADDS,
-        input: "AB",
-        status: 8,
-        line: "mcpre: step limit 15\n",
-        shown: b"",
-        left: "",
-        profile: "",
-    },
-    Row {
-        steps: "9",
-        program: STORES,
-        input: "",
-        status: 8,
-        line: "mcpre: step limit 9\n",
-        shown: b"",
-        left: "",
-        profile: "",
-    },
-    Row {
-        steps: "6",
-        program: ECHOES,
-        input: "hi",
-        status: 8,
-        line: "mcpre: step limit 6\n",
-        shown: b"",
-        left: "i",
-        profile: "",
-    },
-    Row {
-        steps: "7",
-        program: ECHOES,
-        input: "hi",
-        status: 8,
-        line: "mcpre: step limit 7\n",
-        shown: b"h",
-        left: "i",
-        profile: "",
-    },
-    Row {
-        steps: "1",
-        program: DIVIDES,
-        input: "",
-        status: 8,
-        line: "mcpre: step limit 1\n",
-        shown: b"A",
-        left: "",
-        profile: "",
-    },
-    Row {
-        steps: "2",
-        program: DIVIDES,
-        input: "B",
-        status: 7,
-        line: "mcpre: trap DivZero\n",
-        shown: b"A",
-        left: "B",
-        profile: "",
-    },
-    Row {
-        steps: "100",
-        program: DIVIDES,
-        input: "",
-        status: 7,
-        line: "mcpre: trap DivZero\n",
-        shown: b"A",
-        left: "",
-        profile: "",
-    },
-    Row {
-        steps: "1",
-        program: "define i32 @main(){ srem i32 5, undef ret i32 0 }",
-        input: "",
-        status: 7,
-        line: "mcpre: trap DivZero\n",
-        shown: b"",
-        left: "",
-        profile: "",
-    },
-    Row {
-        steps: "1",
-        program: "define void @main(){ sdiv i8 128, -1 ret void }",
-        input: "",
-        status: 7,
-        line: "mcpre: trap DivOverflow\n",
-        shown: b"",
-        left: "",
-        profile: "",
-    },
-    Row {
-        steps: "1",
-        program: "define void @main(){unreachable}",
-        input: "",
-        status: 7,
-        line: "mcpre: trap Unreachable\n",
-        shown: b"",
-        left: "",
-        profile: "",
-    },
+| 12 < BAC => 0 mcpre: main returned 131
+
+- left C
+- a.prof mcpre-profile 1
+func 0 1
+block 0 0 1
+block 1 0
+block 2 1
+block 3
+
+| 4611686018427387903 => 0 mcpre: main returned -2
+
+- a.prof mcpre-profile 1
+func 0 1
+block 0 0 1
+block 1 0
+block 2 1
+block 3
+
+| 15 < AB => 8 mcpre: step limit 15
+",
+    ),
+    (
+        STORES,
+        "
+| 10 < A => 0 mcpre: main returned 8
+
+- left A
+- a.prof mcpre-profile 1
+func 0 1
+block 0
+func 1 1
+block 0
+
+| 9 => 8 mcpre: step limit 9
+",
+    ),
+    (
+        ECHOES,
+        "
+| 20 < hi => 0 mcpre: main returned -1
+
+- shown hi
+- a.prof mcpre-profile 1
+func 0 1
+block 0 1
+block 1 1 2
+block 2 2
+block 3
+
+| 6 < hi => 8 mcpre: step limit 6
+
+- left i
+| 7 < hi => 8 mcpre: step limit 7
+
+- shown h
+- left i",
+    ),
+    (
+        CALLS_ITSELF,
+        "
+| 47 => 0 mcpre: main returned 120
+
+- a.prof mcpre-profile 1
+func 0 6
+block 0 1 5
+block 1
+block 2
+func 1 1
+block 0
+",
+    ),
+    (
+        BRANCHES,
+        "
+| 2 => 0 mcpre: main returned true
+
+- a.prof mcpre-profile 1
+func 0 1
+block 0 1 0
+block 1
+",
+    ),
+    (
+        SWITCHES,
+        "
+| 3 < A => 0 mcpre: main returned -7
+
+- a.prof mcpre-profile 1
+func 0 1
+block 0 0 1 0 0
+block 1
+block 2
+block 3 0 0
+
+| 3 < B => 0 mcpre: main returned -32768
+
+- a.prof mcpre-profile 1
+func 0 1
+block 0 0 0 1 0
+block 1
+block 2
+block 3 0 0
+
+| 3 < C! => 0 mcpre: main returned -7
+
+- left !
+- a.prof mcpre-profile 1
+func 0 1
+block 0 1 0 0 0
+block 1
+block 2
+block 3 0 0
+
+| 3 => 0 mcpre: main returned -32768
+
+- a.prof mcpre-profile 1
+func 0 1
+block 0 0 0 0 1
+block 1
+block 2
+block 3 0 0
+",
+    ),
+    (
+        SHOWS_BYTES,
+        "
+| 10 => 0 mcpre: main returned -72057594037927936
+
+- shown Aÿ
+- a.prof mcpre-profile 1
+func 0 2
+block 0
+func 1 1
+block 0
+",
+    ),
+    (
+        "define void @main(){ret void}",
+        "
+| 1 => 0 mcpre: main returned
+
+- a.prof mcpre-profile 1
+func 0 1
+block 0
+",
+    ),
+    (
+        "define i1 @main(){ret i1 undef}",
+        "
+| 1 => 0 mcpre: main returned false
+
+- a.prof mcpre-profile 1
+func 0 1
+block 0
+",
+    ),
+    (
+        LOOP,
+        "
+| 10 => 8 mcpre: step limit 10
+",
+    ),
+    (
+        DIVIDES,
+        "
+| 1 => 8 mcpre: step limit 1
+
+- shown A
+| 2 < B => 7 mcpre: trap DivZero
+
+- shown A
+- left B
+| 100 => 7 mcpre: trap DivZero
+
+- shown A",
+    ),
+    (
+        "define i32 @main(){ srem i32 5, undef ret i32 0 }",
+        "
+| 1 => 7 mcpre: trap DivZero
+",
+    ),
+    (
+        "define void @main(){ sdiv i8 128, -1 ret void }",
+        "
+| 1 => 7 mcpre: trap DivOverflow
+",
+    ),
+    (
+        "define void @main(){unreachable}",
+        "
+| 1 => 7 mcpre: trap Unreachable
+",
+    ),
 ];
 
 /// What isn't run, with its line.
-const REFUSED: &[(&str, &str)] = &[
-    ("", "mcpre: a.ll: E18 NoMain\n"),
-    ("@main = global i32 0", "mcpre: a.ll: E18 NoMain\n"),
-    ("define void @f(){unreachable}", "mcpre: a.ll: E18 NoMain\n"),
-    (
-        "define i32 @main(i32){ret i32 0}",
-        "mcpre: a.ll: E18 NoMain\n",
-    ),
-    (
-        "define void @Main(){ret void} define void @\"main \"(){ret void}",
-        "mcpre: a.ll: E18 NoMain\n",
-    ),
-    ("?", "mcpre: a.ll:1: E2 BadByte 0x3f\n"),
-    ("define void @main(){", "mcpre: a.ll:1: E3 Syntax\n"),
-    (
-        "declare i32 @main()",
-        "mcpre: a.ll:1: E13 UnknownExternal @main\n",
-    ),
-    (
-        "define void @f(){ret i32 0}",
-        "mcpre: a.ll:1: E8 BadType ret\n",
-    ),
-];
+const NOT_RUN: &str = "
+|  => mcpre: a.ll: E18 NoMain
+| @main = global i32 0 => mcpre: a.ll: E18 NoMain
+| define void @f(){unreachable} => mcpre: a.ll: E18 NoMain
+| define i32 @main(i32){ret i32 0} => mcpre: a.ll: E18 NoMain
+| define void @Main(){ret void} define void @\"main \"(){ret void} => mcpre: a.ll: E18 NoMain
+| ? => mcpre: a.ll:1: E2 BadByte 0x3f
+| define void @main(){ => mcpre: a.ll:1: E3 Syntax
+| declare i32 @main() => mcpre: a.ll:1: E13 UnknownExternal @main
+| define void @f(){ret i32 0} => mcpre: a.ll:1: E8 BadType ret";
 
 /// Words that fit no row.
-const USAGE: &[&[&str]] = &[
-    &["run"],
-    &["run", "5", "a.ll"],
-    &["run", "5", "a.ll", "-", "-"],
-    &["run", "", "a.ll", "-"],
-    &["run", "0", "a.ll", "-"],
-    &["run", "01", "a.ll", "-"],
-    &["run", "+1", "a.ll", "-"],
-    &["run", "-1", "a.ll", "-"],
-    &["run", "1 ", "a.ll", "-"],
-    &["run", "1x", "a.ll", "-"],
-    &["run", "1e3", "a.ll", "-"],
-    &["run", "4611686018427387904", "a.ll", "-"],
-    &["run", "18446744073709551617", "a.ll", "-"],
-    &[
-        "run",
-        "100000000000000000000000000000000000001",
-        "a.ll",
-        "-",
-    ],
-    &["Run", "5", "a.ll", "-"],
-    &["run", "a.ll", "5", "-"],
-];
+const USAGE: &str = "run
+run, 5, a.ll
+run, 5, a.ll, -, -
+run, , a.ll, -
+run, 0, a.ll, -
+run, 01, a.ll, -
+run, +1, a.ll, -
+run, -1, a.ll, -
+run, 1 , a.ll, -
+run, 1x, a.ll, -
+run, 1e3, a.ll, -
+run, 4611686018427387904, a.ll, -
+run, 18446744073709551617, a.ll, -
+run, 100000000000000000000000000000000000001, a.ll, -
+Run, 5, a.ll, -
+run, a.ll, 5, -";
 
-/// Which calls are to fail: of the host, of `next` of the input, and of `put` of the output.
-#[derive(Clone, Copy, Debug)]
-struct Plan {
-    host: &'static [u64],
-    input: &'static [u64],
-    out: &'static [u64],
-}
+/// Runs of what echoes "hi", each with the call that fails, if one does.
+const FAULTS: &str = "
+| host 0: run, 20, a.ll, a.prof => 3 mcpre: read fault: a.ll
 
-const NONE_FAILS: Plan = Plan {
-    host: &[],
-    input: &[],
-    out: &[],
-};
+- left hi
+| none: run, 20, b.ll, a.prof => 3 mcpre: read fault: b.ll
 
-/// A run that meets a fault, with its status, its line, what was shown, what is left, and what the profile holds.
-#[derive(Clone, Copy, Debug)]
-struct Fault {
-    plan: Plan,
-    words: [&'static str; 4],
-    status: u8,
-    line: &'static str,
-    shown: &'static [u8],
-    left: &'static str,
-    profile: Option<&'static str>,
-}
+- left hi
+| input 1: run, 20, a.ll, a.prof => 3 mcpre: read fault: standard input
 
-/// Runs of what echoes "hi".
-const FAULTS: &[Fault] = &[
-    Fault {
-        plan: Plan {
-            host: &[0],
-            input: &[],
-            out: &[],
-        },
-        words: ["run", "20", "a.ll", "a.prof"],
-        status: 3,
-        line: "mcpre: read fault: a.ll\n",
-        shown: b"",
-        left: "hi",
-        profile: None,
-    },
-    Fault {
-        plan: NONE_FAILS,
-        words: ["run", "20", "b.ll", "a.prof"],
-        status: 3,
-        line: "mcpre: read fault: b.ll\n",
-        shown: b"",
-        left: "hi",
-        profile: None,
-    },
-    Fault {
-        plan: Plan {
-            host: &[],
-            input: &[1],
-            out: &[],
-        },
-        words: ["run", "20", "a.ll", "a.prof"],
-        status: 3,
-        line: "mcpre: read fault: standard input\n",
-        shown: b"h",
-        left: "i",
-        profile: None,
-    },
-    Fault {
-        plan: Plan {
-            host: &[],
-            input: &[2],
-            out: &[],
-        },
-        words: ["run", "15", "a.ll", "a.prof"],
-        status: 8,
-        line: "mcpre: step limit 15\n",
-        shown: b"hi",
-        left: "",
-        profile: None,
-    },
-    Fault {
-        plan: Plan {
-            host: &[],
-            input: &[],
-            out: &[1],
-        },
-        words: ["run", "20", "a.ll", "-"],
-        status: 4,
-        line: "mcpre: write fault: standard output\n",
-        shown: b"h",
-        left: "",
-        profile: None,
-    },
-    Fault {
-        plan: Plan {
-            host: &[1],
-            input: &[],
-            out: &[],
-        },
-        words: ["run", "20", "a.ll", "a.prof"],
-        status: 4,
-        line: "mcpre: write fault: a.prof\n",
-        shown: b"hi",
-        left: "",
-        profile: Some("mcpre-profile 1\nfunc 0 1\nblock 0"),
-    },
-    Fault {
-        plan: Plan {
-            host: &[1],
-            input: &[],
-            out: &[],
-        },
-        words: ["run", "20", "a.ll", "-"],
-        status: 0,
-        line: "mcpre: main returned -1\n",
-        shown: b"hi",
-        left: "",
-        profile: None,
-    },
-];
+- shown h
+- left i
+| input 2: run, 15, a.ll, a.prof => 8 mcpre: step limit 15
 
-/// How a command ended, with the files and streams that it left.
-#[derive(Drop)]
-struct Ended {
-    status: u8,
-    host: MemHost,
-    input: MemSource,
-    out: MemSink,
-    err: MemSink,
-}
+- shown hi
+| out 1: run, 20, a.ll, - => 4 mcpre: write fault: standard output
 
-// Runs the words over a program in a.ll and an input, where `err` has room for `room` bytes.
-fn end(
-    alloc: Global,
-    words: &[&str],
-    program: &str,
-    input: &str,
-    plan: Plan,
-    room: usize,
-) -> Result<Ended, Fail> {
-    let words = owned(alloc, words)?;
-    let mut host = host_of(alloc, program.as_bytes(), plan.host)?;
-    let bytes = Vec::from_slice(alloc, input.as_bytes())?;
-    let mut input = MemSource::new(bytes, plan.input.to_vec(alloc)?);
-    let mut out = MemSink::new(alloc, 100, plan.out.to_vec(alloc)?)?;
-    let mut err = MemSink::new(alloc, room, Vec::new(alloc))?;
-    let status = mcpre(alloc, &words, &mut host, &mut input, &mut out, &mut err);
-    Ok(Ended {
-        status,
-        host,
-        input,
-        out,
-        err,
-    })
-}
+- shown h
+| host 1: run, 20, a.ll, a.prof => 4 mcpre: write fault: a.prof
 
-// Expects that this is left of an input.
-fn expect_left(rt: &impl Abort, input: &mut MemSource, left: &str, of: &str) {
-    for byte in left.as_bytes() {
-        assert_eq!(rt; input.next().unwrap_or(None), Some(*byte), "left of {of}");
-    }
-    assert_eq!(rt; input.next().unwrap_or(None), None, "left of {of}");
-}
+- shown hi
+- a.prof mcpre-profile 1
+func 0 1
+block 0
+| host 1: run, 20, a.ll, - => 0 mcpre: main returned -1
 
-// Expects that a row ends as it says, and that a.prof holds the profile, or isn't there.
-fn expect_row(
+- shown hi";
+
+// Expects what a run of so many steps comes to, with a profile, and the same but for the profile without one.
+fn expect_run<'t>(
     rt: &impl Abort,
     alloc: Global,
-    row: &Row,
-    profile: Option<&str>,
+    program: &'t str,
+    row: &'t str,
+    wanted: &str,
 ) -> Result<(), Fail> {
-    let words = ["run", row.steps, "a.ll", "a.prof"];
-    let mut ended = end(alloc, &words, row.program, row.input, NONE_FAILS, 100)?;
-    assert_eq!(rt;
-        ended.err.written(),
-        row.line.as_bytes(),
-        "of {}",
-        row.program
-    );
-    assert_eq!(rt; ended.status, row.status, "of {}", row.program);
-    assert_eq!(rt; ended.out.written(), row.shown, "of {}", row.program);
-    assert_eq!(rt;
-        ended.host.file("a.prof"),
-        profile.map(str::as_bytes),
-        "of {}",
-        row.program
-    );
-    assert_eq!(rt; ended.host.file("a.ll"), Some(row.program.as_bytes()));
-    expect_left(rt, &mut ended.input, row.left, row.program);
-    Ok(())
+    let (steps, input) = halves(row, " < ");
+    let given = Given::fed(program, input);
+    let words = format!(in alloc; "run, {steps}, a.ll, a.prof")?;
+    expect(rt, alloc, &words, &given, wanted)?;
+    let words = format!(in alloc; "run, {steps}, a.ll, -")?;
+    let (quiet, _) = halves(wanted, "\n- a.prof ");
+    expect(rt, alloc, &words, &given, quiet)
 }
 
 #[test]
-fn runs_that_return_write_a_profile(rt: HostRuntime) -> Result<(), Fail> {
-    for row in RETURNS {
-        expect_row(&rt, rt.alloc(), row, Some(row.profile))?;
+fn runs_return_or_stop(rt: HostRuntime) -> Result<(), Fail> {
+    for (program, table) in RUNS {
+        for (row, wanted) in rows(rt.alloc(), table)? {
+            expect_run(&rt, rt.alloc(), program, row, wanted)?;
+        }
     }
-    Ok(())
-}
-
-#[test]
-fn runs_that_stop_write_none(rt: HostRuntime) -> Result<(), Fail> {
-    for row in STOPS {
-        expect_row(&rt, rt.alloc(), row, None)?;
-    }
-    Ok(())
-}
-
-#[test]
-fn a_run_without_a_profile_writes_no_file(rt: HostRuntime) -> Result<(), Fail> {
-    for row in RETURNS {
-        let words = ["run", row.steps, "a.ll", "-"];
-        let ended = end(rt.alloc(), &words, row.program, row.input, NONE_FAILS, 100)?;
-        assert_eq!(rt;
-            ended.err.written(),
-            row.line.as_bytes(),
-            "of {}",
-            row.program
-        );
-        assert_eq!(rt; ended.status, 0, "of {}", row.program);
-        assert_eq!(rt; ended.out.written(), row.shown, "of {}", row.program);
-        assert!(rt; ended.host.file("-").is_none(), "of {}", row.program);
-    }
-    Ok(())
-}
-
-// Expects a status and a line, and that nothing was read, shown or written.
-fn expect_quiet(
-    rt: &impl Abort,
-    alloc: Global,
-    words: &[&str],
-    program: &str,
-    status: u8,
-    line: &str,
-) -> Result<(), Fail> {
-    let mut ended = end(alloc, words, program, "in", NONE_FAILS, 100)?;
-    assert_eq!(rt; ended.err.written(), line.as_bytes(), "of {program}");
-    assert_eq!(rt; ended.status, status, "of {line}");
-    assert!(rt; ended.out.written().is_empty(), "of {line}");
-    assert!(rt; ended.host.file("a.prof").is_none(), "of {line}");
-    assert!(rt; ended.host.file("-").is_none(), "of {line}");
-    assert_eq!(rt;
-        ended.host.file("a.ll"),
-        Some(program.as_bytes()),
-        "of {line}"
-    );
-    expect_left(rt, &mut ended.input, "in", line);
     Ok(())
 }
 
 #[test]
 fn texts_that_are_not_run(rt: HostRuntime) -> Result<(), Fail> {
-    for (program, line) in REFUSED {
-        let words = ["run", "5", "a.ll", "a.prof"];
-        expect_quiet(&rt, rt.alloc(), &words, program, 1, line)?;
-        let words = ["run", "5", "a.ll", "-"];
-        expect_quiet(&rt, rt.alloc(), &words, program, 1, line)?;
+    let alloc = rt.alloc();
+    for (program, line) in rows(alloc, NOT_RUN)? {
+        let given = Given::fed(program, "in");
+        let wanted = format!(in alloc; "1 {line}\n\n- left in")?;
+        expect(&rt, alloc, "run, 5, a.ll, a.prof", &given, &wanted)?;
+        expect(&rt, alloc, "run, 5, a.ll, -", &given, &wanted)?;
     }
     Ok(())
 }
 
 #[test]
 fn words_that_fit_no_row_of_run(rt: HostRuntime) -> Result<(), Fail> {
-    for words in USAGE {
-        expect_quiet(&rt, rt.alloc(), words, ECHOES, 2, "mcpre: usage\n")?;
+    for words in pieces(rt.alloc(), USAGE, "\n")? {
+        let given = Given::fed(ECHOES, "in");
+        let wanted = "2 mcpre: usage\n\n- left in";
+        expect(&rt, rt.alloc(), words, &given, wanted)?;
     }
     Ok(())
 }
 
 #[test]
 fn faults_of_a_run(rt: HostRuntime) -> Result<(), Fail> {
-    for fault in FAULTS {
-        let mut ended = end(rt.alloc(), &fault.words, ECHOES, "hi", fault.plan, 100)?;
-        assert_eq!(rt; ended.err.written(), fault.line.as_bytes());
-        assert_eq!(rt; ended.status, fault.status, "of {}", fault.line);
-        assert_eq!(rt; ended.out.written(), fault.shown, "of {}", fault.line);
-        let profile = fault.profile.map(str::as_bytes);
-        assert_eq!(rt; ended.host.file("a.prof"), profile, "of {}", fault.line);
-        expect_left(&rt, &mut ended.input, fault.left, fault.line);
+    for (row, wanted) in rows(rt.alloc(), FAULTS)? {
+        let (fault, words) = row.split_once(": ").ok_or("no words")?;
+        let mut given = Given::fed(ECHOES, "hi");
+        given.fault = fault;
+        expect(&rt, rt.alloc(), words, &given, wanted)?;
     }
     Ok(())
 }
 
-#[test]
-fn a_line_of_a_run_that_fails_changes_no_status(rt: HostRuntime) -> Result<(), Fail> {
-    let words = ["run", "20", "a.ll", "a.prof"];
-    let ended = end(rt.alloc(), &words, ECHOES, "hi", NONE_FAILS, 0)?;
-    assert_eq!(rt; ended.status, 0);
-    assert!(rt; ended.err.written().is_empty());
-    assert!(rt; ended.host.file("a.prof").is_some());
-    Ok(())
-}
+/// The profile of what echoes two bytes.
+const ECHOED: &str = "mcpre-profile 1\nfunc 0 1\nblock 0 1\nblock 1 1 2\nblock 2 2\nblock 3\n";
 
 #[test]
-fn a_profile_may_be_written_over_its_program(rt: HostRuntime) -> Result<(), Fail> {
-    let words = ["run", "20", "a.ll", "a.ll"];
-    let ended = end(rt.alloc(), &words, ECHOES, "hi", NONE_FAILS, 100)?;
-    assert_eq!(rt; ended.status, 0);
-    let profile = b"mcpre-profile 1\nfunc 0 1\nblock 0 1\nblock 1 1 2\nblock 2 2\nblock 3\n";
-    assert_eq!(rt; ended.host.file("a.ll"), Some(profile.as_slice()));
-    Ok(())
+fn where_the_line_and_the_profile_of_a_run_go(rt: HostRuntime) -> Result<(), Fail> {
+    let alloc = rt.alloc();
+    // A line that fails changes no status.
+    let mut given = Given::fed(ECHOES, "hi");
+    given.room = 0;
+    let wanted = format!(in alloc; "0 \n- shown hi\n- a.prof {ECHOED}")?;
+    expect(&rt, alloc, "run, 20, a.ll, a.prof", &given, &wanted)?;
+    // A profile may be written over its program.
+    let given = Given::fed(ECHOES, "hi");
+    let wanted = format!(in alloc; "0 mcpre: main returned -1\n\n- shown hi\n- a.ll {ECHOED}")?;
+    expect(&rt, alloc, "run, 20, a.ll, a.ll", &given, &wanted)
 }

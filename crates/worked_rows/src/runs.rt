@@ -2,12 +2,11 @@
 
 use mc_host::{FirmSink, FirmSource, MemHost, MemSink};
 use std::alloc::{AllocError, Global};
-use std::process::Abort;
 use std::test::Fail;
 use top_call::mcpre;
 
 /// Texts of one's own.
-pub(crate) fn owned(alloc: Global, texts: &[&str]) -> Result<Vec<String>, AllocError> {
+fn owned(alloc: Global, texts: &[&str]) -> Result<Vec<String>, AllocError> {
     let mut all = Vec::new(alloc);
     for text in texts {
         all.push(String::from_str(alloc, text)?)?;
@@ -69,33 +68,4 @@ pub(crate) fn print(alloc: Global, source: &[u8]) -> Result<Printed, Fail> {
         line,
         written,
     })
-}
-
-/// Expects that a text is refused, that its line says this behind the file's name, and that nothing is written.
-pub(crate) fn expect_refusal(
-    rt: &impl Abort,
-    alloc: Global,
-    text: &str,
-    said: &str,
-) -> Result<(), Fail> {
-    let printed = print(alloc, text.as_bytes())?;
-    let line = format!(in alloc; "mcpre: a.ll:{said}\n")?;
-    assert_eq!(rt; printed.line.as_str(), line.as_str(), "of {text}");
-    assert_eq!(rt; printed.status, 1, "of {text}");
-    assert!(rt; printed.written.is_none(), "of {text}");
-    Ok(())
-}
-
-/// Expects that a text is printed as this.
-pub(crate) fn expect_print(
-    rt: &impl Abort,
-    alloc: Global,
-    text: &str,
-    wanted: &str,
-) -> Result<(), Fail> {
-    let printed = print(alloc, text.as_bytes())?;
-    assert_eq!(rt; printed.line.as_str(), "", "of {text}");
-    assert_eq!(rt; printed.status, 0, "of {text}");
-    assert_eq!(rt; printed.written.as_deref(), Some(wanted), "of {text}");
-    Ok(())
 }

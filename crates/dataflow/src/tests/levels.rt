@@ -43,7 +43,7 @@ impl Meet for Level {
 }
 
 /// A node that lets at most so much through.
-#[derive(Drop)]
+#[derive(Clone, Copy)]
 struct Cap {
     node: u32,
     most: u32,
@@ -83,7 +83,8 @@ fn levels_fall_round_a_loop(rt: HostRuntime) -> Result<(), Fail> {
     }
     assert_eq!(rt; entry.len(), 5);
     assert_eq!(rt; exit.len(), 5);
-    let solution = solve(alloc, &graph, &Cap { node: 2, most: 3 }, entry, exit)?;
+    let cap = Cap { node: 2, most: 3 };
+    let solution = solve(alloc, &graph, &cap, entry, exit)?;
     for (level, want) in solution.entry.iter().zip([7, 3, 3, 3, 9]) {
         assert_eq!(rt; level.value, want);
     }

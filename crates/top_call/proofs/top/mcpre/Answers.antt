@@ -1,9 +1,9 @@
 use Rattle.top_call.specs.Row.{row_of, texts}
-use Rattle.top_call.proofs.Rows.{not_done, complete, traps, ends_nothing, still, trapped, limited, done, partly}
+use Rattle.top_call.proofs.Rows.{not_done, complete, grown, traps, ends_nothing, still, trapped, limited, done, partly}
 use Rattle.top_call.proofs.top.mcpre.Goals as goal
 
 pub returns-clause-not_done : goal.returns-clause-not_done
-returns-clause-not_done g c = λ tells refused. let e = c.answer.ensures.ends in rw e.status_is (not_done c.one_answer.ensures _ _ e.ending (row_of (texts c.args.words.now)) e.ends tells refused)
+returns-clause-not_done g c = λ tells refused. let e = c.answer.ensures.ends in rw e.status_is (not_done c.one_answer.ensures _ _ e.ending c.one_optimised.ensures c.one_answer-2.ensures (row_of (texts c.args.words.now)) e.ends tells refused)
 
 pub returns-clause-trapped : goal.returns-clause-trapped
 returns-clause-trapped g c = λ tells told seven. let e = c.answer.ensures.ends in trapped _ _ (row_of (texts c.args.words.now)) e.ending e.ends _ e.status_is tells told seven
@@ -18,7 +18,10 @@ pub returns-clause-limit : goal.returns-clause-limit
 returns-clause-limit g c = λ tells told stands. let e = c.answer.ensures.ends in rw e.status_is (ends_nothing c.one_answer.ensures _ _ e.ending (row_of (texts c.args.words.now)) e.ends tells told stands)
 
 pub returns-clause-complete : goal.returns-clause-complete
-returns-clause-complete g c = λ tells accepted reads writes. let e = c.answer.ensures.ends in rw e.status_is (complete c.one_answer.ensures _ _ e.ending (row_of (texts c.args.words.now)) e.ends tells accepted reads writes)
+returns-clause-complete g c = λ tells accepted reads writes. let e = c.answer.ensures.ends in rw e.status_is (complete c.one_answer.ensures _ _ e.ending c.one_answer-2.ensures (row_of (texts c.args.words.now)) e.ends tells accepted reads writes)
+
+pub returns-clause-grown : goal.returns-clause-grown
+returns-clause-grown g c = λ tells read reads writes. let e = c.answer.ensures.ends in rw e.status_is (grown c.one_answer.ensures _ _ e.ending c.one_answer-2.ensures (row_of (texts c.args.words.now)) e.ends tells read reads writes)
 
 pub returns-clause-done : goal.returns-clause-done
 returns-clause-done g c = λ tells zero. let e = c.answer.ensures.ends in done _ _ (row_of (texts c.args.words.now)) e.ending e.ends _ e.status_is tells zero

@@ -1,5 +1,5 @@
 use Rattle.flow_net.specs.Network.{loads}
-use Rattle.flow_net.proofs.Visits.{visiting_first, distances_end, distance_small}
+use Rattle.flow_net.proofs.Visits.{visiting_first, distances_end, nearest_first, distance_small}
 use Rattle.flow_net.proofs.levels.Distances.search.Goals as goal
 
 pub loop-place-init : goal.loop-place-init
@@ -9,6 +9,10 @@ loop-place-init c =
 pub returns-clause-distances : goal.returns-clause-distances
 returns-clause-distances c =
     distances_end c.args.net.now.nodes (loads c.args.net.now c.args.flow.now) c.loop-place.place c.loop-place.self c.loop-place-test.false c.loop-place.invariant
+
+pub returns-clause-order : goal.returns-clause-order
+returns-clause-order c =
+    nearest_first c.args.net.now.nodes (loads c.args.net.now c.args.flow.now) c.loop-place.place c.loop-place.self c.loop-place.invariant
 
 pub returns-clause-small : goal.returns-clause-small
 returns-clause-small c =

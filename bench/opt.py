@@ -1,0 +1,366 @@
+"""Measures the time and the memory of `mcpre opt`, beside LLVM's `opt`, and how its time grows.
+
+    python3 bench/opt.py [--program PROGRAM]
+
+PROGRAM is the built program, crates/mcpre/out/mcpre if none is given. Two families of modules are measured, each with a
+profile that it accepts:
+
+- Rounds: a `main` of so many rounds of four blocks, in each of which an addition stands in one of two arms and again
+  where they meet. What is added to comes from the input, so that no value is known before the run. The bars are on
+  these.
+- Expressions: a `main` of one block with so many expressions that differ in a constant, each computed twice. No bar is
+  set on them: they are shown to see how the time grows with the number of expressions of one function.
+
+On each also `opt-19 -S -passes=mem2reg,gvn` is run, by turns with the program, where it is installed. The bars:
+
+- The program takes no more processor time than opt-19, where that is installed.
+- Twice the rounds take at most 2.3 times the time.
+- The peak of memory is at most 40 for each byte of the module's text and of the certificate together, for texts of 2^20
+  bytes and more. A peak is never shown below this script's own, some 10 MiB, so it says little of shorter texts.
+
+The processor time is that of the program and of the system for it, with reading and writing of the files; of several
+runs the one that used the least counts. It still swings where other work shares the machine, so there are more runs
+where a bar is missed by the first ones. Each run must end with status 0 and leave the certificate's text, and where
+opt-19 is installed it must accept the module that was written.
+
+The status is 0 where no bar is missed, 1 where one is, and 2 where something could not be measured. Nothing is
+installed: where opt-19 (of Debian's package llvm-19) is missing, the script says so, and its bar is left out. The files
+are made in a temporary folder, which is removed. Linux alone.
+"""
+
+import argparse
+import os
+import shutil
+import sys
+import tempfile
+import time
+from pathlib import Path
+from typing import Callable, NamedTuple
+
+TOP = Path(__file__).resolve().parent.parent
+BUILT_PROGRAM = TOP / "crates" / "mcpre" / "out" / "mcpre"
+RUNS = 3
+MORE_RUNS = 12
+MOST_GROWTH = 2.3
+MOST_MEMORY = 40.0
+LEAST_TEXT_FOR_MEMORY = 1 << 20
+CANNOT_MEASURE = 2
+
+# 5000 is there as the half of 10000.
+ROUNDS = [1000, 2000, 4000, 5000, 10000]
+EXPRESSIONS = [500, 1000, 2000, 4000]
+CERTIFICATE = b'{"functions":[],"version":1}'
+HEAD = "declare i32 @getchar()\n\ndefine i32 @main() {\nentry:\n"
+
+
+class Made(NamedTuple):
+    """The text of a module, and that of its profile."""
+
+    module: str
+    profile: str
+
+
+class Family(NamedTuple):
+    """Modules that grow in one way, each made of its size, which counts `unit`."""
+
+    unit: str
+    sizes: list[int]
+    make: Callable[[int], Made]
+    has_bars: bool
+
+
+class Files(NamedTuple):
+    """The files of a module in a folder."""
+
+    title: str
+    module: Path
+    profile: Path
+    output: Path
+    certificate: Path
+    # The bytes of the module's text.
+    length: int
+
+
+class Run(NamedTuple):
+    """What one run of a program took."""
+
+    processor_seconds: float
+    clock_seconds: float
+    peak_bytes: int
+
+
+class Measured(NamedTuple):
+    """What the program's runs took on a module, and what those of opt took where it is there."""
+
+    files: Files
+    runs: list[Run]
+    opt_runs: list[Run]
+
+    def best(self) -> Run:
+        return least(self.runs)
+
+    def share_of_opt(self) -> float | None:
+        """How much of opt's time the program took."""
+        if not self.opt_runs:
+            return None
+        return self.best().processor_seconds / least(self.opt_runs).processor_seconds
+
+    def peak_of_byte(self) -> float:
+        return self.best().peak_bytes / (self.files.length + len(CERTIFICATE))
+
+
+# ---- modules
+
+
+def round_of(number: int, is_last: bool) -> str:
+    """Four blocks: an addition in one of two arms, and again where they meet."""
+    addend = number % 7
+    following = "end" if is_last else f"s{number + 1}"
+    return (
+        f"s{number}:\n"
+        f"  %s{number}.a = load i32, ptr %a\n"
+        f"  %s{number}.c = icmp slt i32 %s{number}.a, 0\n"
+        f"  br i1 %s{number}.c, label %l{number}, label %r{number}\n"
+        f"l{number}:\n"
+        f"  %l{number}.a = load i32, ptr %a\n"
+        f"  %l{number}.v = add i32 %l{number}.a, {addend}\n"
+        f"  store i32 %l{number}.v, ptr %t\n"
+        f"  br label %j{number}\n"
+        f"r{number}:\n"
+        f"  br label %j{number}\n"
+        f"j{number}:\n"
+        f"  %j{number}.a = load i32, ptr %a\n"
+        f"  %j{number}.v = add i32 %j{number}.a, {addend}\n"
+        f"  store i32 %j{number}.v, ptr %a\n"
+        f"  br label %{following}\n"
+    )
+
+
+def rounds(count: int) -> Made:
+    """So many rounds one behind the other, over a byte of the input; of 100 runs some take the first arm."""
+    begun = (
+        f"{HEAD}"
+        "  %a = alloca i32\n"
+        "  %t = alloca i32\n"
+        "  %g = call i32 @getchar()\n"
+        "  store i32 %g, ptr %a\n"
+        "  br label %s0\n"
+    )
+    body = "".join(round_of(number, number == count - 1) for number in range(count))
+    lines = ["mcpre-profile 1", "func 0 100", "block 0 100"]
+    for number in range(count):
+        left = 1 + 37 * number % 99
+        block = 1 + 4 * number
+        lines += [
+            f"block {block} {left} {100 - left}",
+            f"block {block + 1} {left}",
+            f"block {block + 2} {100 - left}",
+            f"block {block + 3} 100",
+        ]
+    lines.append(f"block {1 + 4 * count}")
+    return Made(f"{begun}{body}end:\n  ret i32 0\n}}\n", "\n".join(lines) + "\n")
+
+
+def expressions(count: int) -> Made:
+    """A block with a sum of the input and each of so many constants, each computed twice."""
+    body = "".join(
+        f"  %{front}{number}.a = load i32, ptr %a\n"
+        f"  %{front}{number}.v = add i32 %{front}{number}.a, {number}\n"
+        f"  store i32 %{front}{number}.v, ptr %t\n"
+        for front in ("x", "y")
+        for number in range(count)
+    )
+    begun = (
+        f"{HEAD}"
+        "  %a = alloca i32\n"
+        "  %t = alloca i32\n"
+        "  %g = call i32 @getchar()\n"
+        "  store i32 %g, ptr %a\n"
+    )
+    return Made(f"{begun}{body}  ret i32 0\n}}\n", "mcpre-profile 1\nfunc 0 100\nblock 0\n")
+
+
+FAMILIES = [
+    Family("rounds", ROUNDS, rounds, True),
+    Family("expressions", EXPRESSIONS, expressions, False),
+]
+
+
+# ---- runs
+
+
+def give_up(message: str) -> None:
+    print(f"opt.py: {message}", file=sys.stderr)
+    sys.exit(CANNOT_MEASURE)
+
+
+def run_once(words: list[str], errors: Path) -> Run:
+    """Runs a program, and gives what it took."""
+    to_errors = (os.POSIX_SPAWN_OPEN, 2, str(errors), os.O_WRONLY | os.O_CREAT | os.O_TRUNC, 0o600)
+    begun = time.perf_counter()
+    child = os.posix_spawn(words[0], words, {}, file_actions=[to_errors])
+    _, status, used = os.wait4(child, 0)
+    clock_seconds = time.perf_counter() - begun
+    if status != 0:
+        code = os.waitstatus_to_exitcode(status)
+        told = errors.read_text(errors="replace").strip()
+        give_up(f"{' '.join(words)} ended with {code}: {told}")
+    return Run(used.ru_utime + used.ru_stime, clock_seconds, used.ru_maxrss * 1024)
+
+
+def make_files(folder: Path, family: Family, size: int) -> Files:
+    made = family.make(size)
+    stem = folder / f"{family.unit}-{size}"
+    files = Files(
+        f"{size} {family.unit}",
+        stem.with_suffix(".ll"),
+        stem.with_suffix(".prof"),
+        folder / "optimised.ll",
+        folder / "certificate.json",
+        len(made.module.encode()),
+    )
+    files.module.write_text(made.module)
+    files.profile.write_text(made.profile)
+    return files
+
+
+def run_program(program: Path, files: Files) -> Run:
+    """Runs the program on a module, and gives up where it leaves other files than it must."""
+    files.output.unlink(missing_ok=True)
+    files.certificate.unlink(missing_ok=True)
+    names = [str(files.module), str(files.profile), str(files.output), str(files.certificate)]
+    run = run_once([str(program), "opt", *names], files.module.with_suffix(".errors"))
+    if not files.output.is_file():
+        give_up(f"the program wrote no module for {files.title}")
+    if not files.certificate.is_file() or files.certificate.read_bytes() != CERTIFICATE:
+        give_up(f"the program wrote another certificate for {files.title} than it must")
+    return run
+
+
+def run_opt(opt: str, files: Files) -> Run:
+    words = [opt, "-S", "-passes=mem2reg,gvn", str(files.module), "-o", str(files.output)]
+    return run_once(words, files.module.with_suffix(".errors"))
+
+
+def check_output(opt: str, files: Files) -> None:
+    """Gives up where LLVM doesn't accept the module that the program wrote."""
+    run_once([opt, "-passes=verify", "-disable-output", str(files.output)], files.module.with_suffix(".errors"))
+
+
+def least(runs: list[Run]) -> Run:
+    return min(runs, key=lambda run: run.processor_seconds)
+
+
+def run_more(program: Path, opt: str | None, measured: Measured, count: int) -> None:
+    """Adds so many runs of the program, by turns with opt where it is there."""
+    for _ in range(count):
+        measured.runs.append(run_program(program, measured.files))
+        if opt is not None:
+            measured.opt_runs.append(run_opt(opt, measured.files))
+
+
+# ---- what is measured
+
+
+def growth_of(half: Measured, whole: Measured) -> float:
+    return whole.best().processor_seconds / half.best().processor_seconds
+
+
+def misses_bar(half: Measured | None, measured: Measured) -> bool:
+    """Whether more runs may help."""
+    share = measured.share_of_opt()
+    is_slow = share is not None and share > 1
+    return is_slow or (half is not None and growth_of(half, measured) > MOST_GROWTH)
+
+
+def print_head() -> None:
+    print(
+        f"{'module':<20}{'bytes':>10}{'runs':>6}{'seconds':>9}{'by clock':>10}{'us/one':>9}"
+        f"{'peak/byte':>11}{'opt-19':>9}{'of it':>7}{'growth':>8}"
+    )
+
+
+def print_row(measured: Measured, size: int, half: Measured | None) -> None:
+    run, share = measured.best(), measured.share_of_opt()
+    opt_shown = "" if share is None else f"{least(measured.opt_runs).processor_seconds:.3f}"
+    share_shown = "" if share is None else f"{share:.2f}"
+    growth_shown = "" if half is None else f"{growth_of(half, measured):.2f}"
+    print(
+        f"{measured.files.title:<20}{measured.files.length:>10}{len(measured.runs):>6}{run.processor_seconds:>9.3f}"
+        f"{run.clock_seconds:>10.3f}{run.processor_seconds / size * 1e6:>9.1f}{measured.peak_of_byte():>11.2f}"
+        f"{opt_shown:>9}{share_shown:>7}{growth_shown:>8}",
+        flush=True,
+    )
+
+
+def measure(program: Path, opt: str | None, folder: Path, family: Family) -> dict[int, Measured]:
+    """Prints the lines of a family, and gives what was measured for each size."""
+    found: dict[int, Measured] = {}
+    for size in family.sizes:
+        measured = Measured(make_files(folder, family, size), [], [])
+        half = found.get(size // 2)
+        run_more(program, opt, measured, RUNS)
+        for _ in range(MORE_RUNS if family.has_bars else 0):
+            if not misses_bar(half, measured):
+                break
+            if half is not None:
+                run_more(program, opt, half, 1)
+            run_more(program, opt, measured, 1)
+        if opt is not None:
+            run_program(program, measured.files)
+            check_output(opt, measured.files)
+        print_row(measured, size, half)
+        found[size] = measured
+    return found
+
+
+def holds(condition: bool, text: str) -> bool:
+    """Prints whether a bar is met."""
+    print(f"{'yes' if condition else 'NO ':<4}{text}")
+    return condition
+
+
+def judge(found: dict[int, Measured]) -> bool:
+    """Prints each bar, and gives whether all are met."""
+    met = []
+    for measured in found.values():
+        share = measured.share_of_opt()
+        if share is not None:
+            met.append(holds(share <= 1, f"{measured.files.title}: at most the time of opt-19 ({share:.2f} of it)"))
+    for size, measured in found.items():
+        half = found.get(size // 2)
+        if half is not None:
+            growth = growth_of(half, measured)
+            bar = f"{measured.files.title}: at most {MOST_GROWTH} times the time of {half.files.title} ({growth:.2f})"
+            met.append(holds(growth <= MOST_GROWTH, bar))
+    for measured in found.values():
+        if measured.files.length >= LEAST_TEXT_FOR_MEMORY:
+            peak = measured.peak_of_byte()
+            bar = f"{measured.files.title}: at most {MOST_MEMORY:.0f} bytes of memory for a byte ({peak:.2f})"
+            met.append(holds(peak <= MOST_MEMORY, bar))
+    return all(met)
+
+
+def program_asked_for() -> Path:
+    parser = argparse.ArgumentParser(description="Measures the time and the memory of mcpre opt.")
+    parser.add_argument("--program", type=Path, default=BUILT_PROGRAM, help="the built program")
+    program = parser.parse_args().program.resolve()
+    if not program.is_file():
+        give_up(f"there is no program at {program}: run first, at the top of the repository, sh example.sh")
+    return program
+
+
+def main() -> int:
+    program = program_asked_for()
+    opt = shutil.which("opt-19")
+    if opt is None:
+        print("opt-19 isn't installed (Debian's package llvm-19 has it): its times are left out, and so is their bar")
+    with tempfile.TemporaryDirectory(prefix="mcpre-bench-") as name:
+        print_head()
+        measured = [measure(program, opt, Path(name), family) for family in FAMILIES]
+    met = [judge(found) for family, found in zip(FAMILIES, measured) if family.has_bars]
+    return 0 if all(met) else 1
+
+
+if __name__ == "__main__":
+    sys.exit(main())

@@ -1,0 +1,3 @@
+pub mod Ascending
+pub mod Written
+pub mod Unique

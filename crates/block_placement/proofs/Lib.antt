@@ -1,0 +1,6 @@
+mod Geometry
+mod Freshness
+mod Occurring
+mod Neighbours
+mod Growing
+mod Told

@@ -1,0 +1,4 @@
+pub mod Bounds
+pub mod ByPlan
+pub mod Registers
+pub mod Steps

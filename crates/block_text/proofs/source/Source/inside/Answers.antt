@@ -1,0 +1,11 @@
+use Rattle.std.proofs.Common.{◌∙◌, ap}
+use Rattle.point_graph.specs.Graph.{Inside}
+use Rattle.changes.specs.Changed.{inserted_on}
+use Rattle.block_text.specs.ByChanges.{Given}
+use Rattle.block_text.proofs.Bounds.{all_there}
+use Rattle.block_text.proofs.source.Source.inside.Goals as goal
+
+pub returns-clause-there : goal.returns-clause-there
+returns-clause-there c =
+    let g : Given = record { exprs = c.self.inside.table.now.exprs; changes = c.self.inside.changes.now; vars = c.self.inside.vars } in
+    all_there g c.args.self.now (Inside c.args.block c.args.place) c.inside.result.now c.self.view_is c.self.invariant (c.inside.ensures ∙ ap (λ (x : Given). inserted_on x.changes (Inside c.args.block c.args.place)) c.self.view_is)

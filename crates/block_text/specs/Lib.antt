@@ -1,0 +1,2 @@
+pub mod ByChanges
+pub mod Texts

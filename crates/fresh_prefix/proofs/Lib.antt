@@ -1,0 +1,3 @@
+mod Extending
+mod Marks
+mod Texts

@@ -1,0 +1,9 @@
+pub mod Parts
+pub mod Lying
+pub mod Arcs
+pub mod Suiting
+pub mod Agreeing
+pub mod Existing
+pub mod Events
+pub mod Capacities
+pub mod Cheapest

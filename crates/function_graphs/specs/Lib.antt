@@ -1,0 +1,4 @@
+pub mod Graphs
+pub mod Sets
+pub mod Networks
+pub mod Best

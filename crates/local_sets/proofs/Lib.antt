@@ -1,0 +1,12 @@
+pub mod AvailablePaths
+pub mod BlockLemmas
+pub mod BlockPaths
+pub mod CountLemmas
+pub mod FixedPaths
+pub mod HeadLists
+pub mod InevitableLemmas
+pub mod ReachLemmas
+pub mod Settings
+pub mod TimesLemmas
+pub mod WantedPaths
+pub mod Words

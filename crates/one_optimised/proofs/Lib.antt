@@ -1,0 +1,4 @@
+pub mod Lists
+pub mod Alike
+pub mod Moving
+pub mod Whole

@@ -1,0 +1,14 @@
+//! Modules with placements applied, and optimised ones, beside their texts.
+#![tactic(auto)]
+
+mod checking;
+#[cfg(test)]
+mod outcomes;
+#[cfg(test)]
+mod runs;
+#[cfg(test)]
+mod sources;
+#[cfg(test)]
+mod tests;
+
+pub use checking::checked_apply;

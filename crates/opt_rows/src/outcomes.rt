@@ -1,0 +1,65 @@
+//! What becomes of modules.
+
+use crate::checking::checked_apply;
+use crate::runs::expect_same_run;
+use ir_printer::print;
+use ir_reader::read;
+use ir_types::module::Module;
+use optimise::optimise;
+use std::alloc::Global;
+use std::process::Abort;
+use std::test::Fail;
+
+/// Inputs that take the branches of the modules.
+const INPUTS: [&[u8]; 4] = [b"AB", b"BA", b"", b"C\0"];
+
+/// Expects that a module has this text, and does on each input what the old one does.
+fn expect_module(
+    rt: &impl Abort,
+    alloc: Global,
+    old: &Module<'_>,
+    new: &Module<'_>,
+    wanted: &str,
+) -> Result<(), Fail> {
+    let text = print(alloc, new)?;
+    let text = String::from_utf8_lossy(alloc, &text)?;
+    assert_eq!(rt; text.as_str(), wanted);
+    for bytes in INPUTS {
+        expect_same_run(rt, alloc, old, new, bytes)?;
+    }
+    Ok(())
+}
+
+/// Expects that a text is optimised to this.
+pub(crate) fn expect_optimised(
+    rt: &impl Abort,
+    alloc: Global,
+    text: &str,
+    wanted: &str,
+) -> Result<(), Fail> {
+    let source = text.as_bytes();
+    assert!(rt; source.len() < 2000);
+    let program = read(alloc, source)?;
+    let optimised = optimise(alloc, &program)?;
+    expect_module(rt, alloc, &program, &optimised, wanted)
+}
+
+/// Expects that a text with these placements applied becomes this, or that they are not applied.
+pub(crate) fn expect_applied(
+    rt: &impl Abort,
+    alloc: Global,
+    text: &str,
+    lists: &[&[(&[u32], &[u32])]],
+    wanted: Option<&str>,
+) -> Result<(), Fail> {
+    let source = text.as_bytes();
+    assert!(rt; source.len() < 2000);
+    let program = read(alloc, source)?;
+    match (checked_apply(alloc, &program, lists)?, wanted) {
+        (Some(applied), Some(wanted)) => expect_module(rt, alloc, &program, &applied, wanted),
+        (applied, wanted) => {
+            assert!(rt; applied.is_none() && wanted.is_none());
+            Ok(())
+        }
+    }
+}

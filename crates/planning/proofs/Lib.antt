@@ -1,0 +1,13 @@
+mod Acting
+mod Bits
+mod Blocked
+mod Counting
+mod Ending
+mod Geometry
+mod Growing
+mod Lists
+mod Living
+mod Occurring
+mod Placing
+mod Plans
+mod Sets

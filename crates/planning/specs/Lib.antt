@@ -1,0 +1,4 @@
+pub mod Blocks
+pub mod Marking
+pub mod Moving
+pub mod PlanOf

@@ -1,0 +1,152 @@
+-- What an ending of `opt` says of its files.
+use Rattle.std.proofs.Common.{◌≡◌, ◌⊎◌, ℕ, List, length, Some, Ok, Err, IsTrue, inl, inr, refl, sym, ap, subst, ◌∙◌, arith}
+use Rattle.mc_host.specs.Faults.{Rose}
+use Rattle.mc_host.specs.Host.{HostState}
+use Rattle.ir_types.specs.Program.{Program}
+use Rattle.ir_types.specs.WellFormed.{IsWellFormed}
+use Rattle.ir_reader.specs.Reading.{HasOneAnswer}
+use Rattle.profile.specs.Reading as profile
+use Rattle.profile.specs.declared.counts.FnCounts.{FnCounts}
+use Rattle.profile.specs.declared.reading.ProfileError.{ProfileError}
+use Rattle.profile.specs.declared.reading.ProfileError.TheVariants as errors
+use Rattle.optimise.specs.Optimised.{IsOptimised}
+use Rattle.top_call.specs.declared.ending.Problem.{Problem}
+use Rattle.top_call.specs.declared.ending.Problem.TheVariants.{TooLong, Text, Grown, NoMain, LongProfile, BadProfile}
+use Rattle.top_call.specs.declared.ending.ProfileProblem.{ProfileProblem}
+use Rattle.top_call.specs.declared.ending.Done.TheVariants.{Written, Returned}
+use Rattle.top_call.specs.declared.ending.Stop.TheVariants.{Usage, Refused, ReadFault, WriteFault, OutOfMemory, Trapped, StepLimit}
+use Rattle.top_call.specs.Ending.{Ending, status_of}
+use Rattle.top_call.specs.Row.{OptFiles}
+use Rattle.top_call.specs.RefusedProfile.{problem_of}
+use Rattle.top_call.specs.Print.{ReadsAs, HasProblem}
+use Rattle.top_call.specs.Opt.{OptEnds, AreAccepted, AreOptimisable, HasBadProfile, HasCounts, HasOptProblem, HasFileProblem, HasGrown, KeepsRules, IsFit, IsGrown, IsOutput}
+use Rattle.top_call.proofs.Endings.{same_program, not_long, not_refused}
+
+-- an error that tells a problem isn't want of memory
+told_problem : (error : ProfileError) (problem : ProfileProblem) → problem_of error ≡ Some problem → ¬ (error ≡ errors.NoMemory)
+told_problem error problem is none =
+    let P : ProfileError → Type 0 = λ e. problem_of e ≡ Some problem in
+    let h = subst P none is in absurd (cc)
+
+-- what is fit isn't too large
+-- a module has one optimised module
+abbrev pub OneOptimised : Type 0
+OneOptimised = (m one other : Program) → IsWellFormed m → IsOptimised m one → IsOptimised m other → one ≡ other
+
+fit_not_grown : (m : Program) → IsFit m → ¬ (IsGrown m)
+fit_not_grown m fit (inl long) = absurd (omega (arith, fit.fits, long))
+fit_not_grown m fit (inr above) = above fit.limits
+
+module _ (one : (bytes : List ℕ) → HasOneAnswer bytes) (one_profile : (m : Program) → IsWellFormed m → (bytes : List ℕ) → profile.HasOneAnswer m bytes)
+    (files : OptFiles) (old : HostState) where
+  same_content : (name a b : List ℕ) → old.file name ≡ Some a → old.file name ≡ Some b → a ≡ b
+  same_content name a b e f = let g : Some a ≡ Some b = sym e ∙ f in cc
+
+  -- a profile that says counts isn't too long
+  not_long_profile : (program : Program) (counts : List FnCounts) → HasCounts old files.profile program counts → ¬ (HasProblem old files.profile TooLong)
+  not_long_profile program counts says has =
+      let same = same_content files.profile says.content has.0 says.holds has.1 in
+      let l = ap (λ (l : List ℕ). length l) same in
+      absurd (omega (arith, l, says.short, has.2))
+
+  -- and it isn't refused
+  not_bad_profile : (program program' : Program) (counts : List FnCounts) (problem : ProfileProblem) → IsWellFormed program → program' ≡ program
+      → HasCounts old files.profile program counts → ¬ (HasBadProfile old files.profile program' problem)
+  not_bad_profile program program' counts problem rules is says has =
+      let same = same_content files.profile says.content has.content says.holds has.holds in
+      let P : List ℕ → Type 0 = λ l. profile.Reads program l counts in
+      let Q : Program → Type 0 = λ m. profile.Refuses m has.content has.bad.error in
+      told_problem has.bad.error problem has.bad.is_problem
+      ((one_profile program rules has.content).not_both counts has.bad.error (subst P same says.reads) (subst Q is has.bad.refuses))
+
+  -- files that are accepted have no problem
+  no_problem : (program : Program) → AreAccepted files old program → (problem : Problem) → KeepsRules files old problem → ¬ (HasFileProblem files old problem)
+  no_problem program accepted TooLong rules has = not_long one old files.input program accepted.reads has
+  no_problem program accepted (Text refusal excerpt) rules has = not_refused one old files.input program refusal excerpt accepted.reads has
+  no_problem program accepted LongProfile rules has = not_long_profile program accepted.counts accepted.profile has.2
+  no_problem program accepted (BadProfile problem) rules has =
+      let kept = same_program one old files.input rules.0 program rules.1 accepted.reads in
+      not_bad_profile program has.0 accepted.counts problem (subst IsWellFormed kept rules.2)
+      (same_program one old files.input has.0 program has.1 accepted.reads) accepted.profile has.2
+  no_problem program accepted Grown rules has = absurd has
+  no_problem program accepted NoMain rules has = absurd has
+
+  -- where a module was made, the files have no problem
+  keeps_rules : (program : Program) → ReadsAs old files.input program → IsWellFormed program → (problem : Problem) → KeepsRules files old problem
+  keeps_rules program reads rules (BadProfile problem) = (program, reads, rules)
+  keeps_rules program reads rules LongProfile = tt
+  keeps_rules program reads rules TooLong = tt
+  keeps_rules program reads rules (Text refusal excerpt) = tt
+  keeps_rules program reads rules Grown = tt
+  keeps_rules program reads rules NoMain = tt
+
+  file_without_problem : (program' : Program) → IsOutput files old program' → (problem : Problem) → ¬ HasFileProblem files old problem
+  file_without_problem program' output problem has =
+      let reads = output.optimises.accepted.reads in
+      no_problem output.optimises.program output.optimises.accepted problem (keeps_rules output.optimises.program reads output.rules problem) has
+
+  output_without_problem : OneOptimised → (program' : Program) → IsOutput files old program' → (problem : Problem) → ¬ HasOptProblem files old problem
+  output_without_problem once program' output Grown has =
+      let program = output.optimises.program in
+      let made = has.1 in
+      let same = same_program one old files.input made.program program made.accepted.reads output.optimises.accepted.reads in
+      let P : Program → Type 0 = λ m. IsOptimised m has.0 in
+      let is : has.0 ≡ program' = once program has.0 program' output.rules (subst P same made.optimised) output.optimises.optimised in
+      fit_not_grown program' output.fit (subst IsGrown is has.2)
+  output_without_problem once program' output TooLong has = file_without_problem program' output TooLong has
+  output_without_problem once program' output (Text refusal excerpt) has = file_without_problem program' output (Text refusal excerpt) has
+  output_without_problem once program' output LongProfile has = file_without_problem program' output LongProfile has
+  output_without_problem once program' output (BadProfile problem) has = file_without_problem program' output (BadProfile problem) has
+  output_without_problem once program' output NoMain has = absurd has
+
+  -- what is refused of accepted files is that the module is too large
+  refused_as_grown : (program : Program) → AreAccepted files old program → (problem : Problem) → HasOptProblem files old problem → KeepsRules files old problem → HasGrown files old
+  refused_as_grown program accepted Grown has rules = has
+  refused_as_grown program accepted TooLong has rules = absurd (no_problem program accepted TooLong rules has)
+  refused_as_grown program accepted (Text refusal excerpt) has rules = absurd (no_problem program accepted (Text refusal excerpt) rules has)
+  refused_as_grown program accepted LongProfile has rules = absurd (no_problem program accepted LongProfile rules has)
+  refused_as_grown program accepted (BadProfile problem) has rules = absurd (no_problem program accepted (BadProfile problem) rules has)
+  refused_as_grown program accepted NoMain has rules = absurd has
+
+  optimisable_not_grown : AreOptimisable files old → ¬ (HasGrown files old)
+  optimisable_not_grown can grown =
+      let made = grown.1 in
+      let same = same_program one old files.input made.program can.program made.accepted.reads can.accepted.reads in
+      let P : Program → Type 0 = λ m. IsOptimised m grown.0 in
+      can.not_grown grown.0 (subst P same made.optimised) grown.2
+
+  pub opt_not_done : OneOptimised → (new : HostState) (ending : Ending) → OptEnds files old new ending → IsTrue old.tells
+      → (problem : Problem) × HasOptProblem files old problem → (status_of ending ≡ 1) ⊎ (status_of ending ≡ 3) ⊎ (status_of ending ≡ 5)
+  opt_not_done once new (Ok Written) ends tells has = absurd (let made = ends tells in output_without_problem once made.program' made.is_output has.0 has.1)
+  opt_not_done once new (Ok (Returned value)) ends tells has = absurd ends
+  opt_not_done once new (Err (Refused file told)) ends tells has = inl refl
+  opt_not_done once new (Err (ReadFault name)) ends tells has = inr (inl refl)
+  opt_not_done once new (Err (WriteFault name)) (rose, inl fault) tells has = absurd (let made = fault.2 tells in output_without_problem once made.0 made.1 has.0 has.1)
+  opt_not_done once new (Err (WriteFault name)) (rose, inr fault) tells has = absurd (let made = fault.1 tells in output_without_problem once made.0 made.1 has.0 has.1)
+  opt_not_done once new (Err OutOfMemory) ends tells has = inr (inr refl)
+  opt_not_done once new (Err Usage) ends tells has = absurd ends
+  opt_not_done once new (Err (Trapped trap)) ends tells has = absurd ends
+  opt_not_done once new (Err (StepLimit steps)) ends tells has = absurd ends
+
+  pub opt_grown : (new : HostState) (ending : Ending) → OptEnds files old new ending → IsTrue old.tells
+      → (program : Program) → AreAccepted files old program → ¬ (Rose old.read_faults new.read_faults) → ¬ (Rose old.write_faults new.write_faults)
+      → (status_of ending ≡ 0) ⊎ (status_of ending ≡ 5) ⊎ ((status_of ending ≡ 1) × HasGrown files old)
+  opt_grown new (Ok done) ends tells program accepted reads writes = inl refl
+  opt_grown new (Err (Refused file told)) ends tells program accepted reads writes =
+      let has = ends.2 tells in inr (inr (refl, refused_as_grown program accepted told has.0 has.1))
+  opt_grown new (Err (ReadFault name)) ends tells program accepted reads writes = absurd (reads ends.1)
+  opt_grown new (Err (WriteFault name)) ends tells program accepted reads writes = absurd (writes ends.0)
+  opt_grown new (Err OutOfMemory) ends tells program accepted reads writes = inr (inl refl)
+  opt_grown new (Err Usage) ends tells program accepted reads writes = absurd ends
+  opt_grown new (Err (Trapped trap)) ends tells program accepted reads writes = absurd ends
+  opt_grown new (Err (StepLimit steps)) ends tells program accepted reads writes = absurd ends
+
+  pub opt_complete : (new : HostState) (ending : Ending) → OptEnds files old new ending → IsTrue old.tells
+      → AreOptimisable files old → ¬ (Rose old.read_faults new.read_faults) → ¬ (Rose old.write_faults new.write_faults)
+      → (status_of ending ≡ 0) ⊎ (status_of ending ≡ 5)
+  opt_complete new ending ends tells can reads writes = by (opt_grown new ending ends tells can.program can.accepted reads writes)
+    where
+      by : (status_of ending ≡ 0) ⊎ (status_of ending ≡ 5) ⊎ ((status_of ending ≡ 1) × HasGrown files old) → (status_of ending ≡ 0) ⊎ (status_of ending ≡ 5)
+      by (inl zero) = inl zero
+      by (inr (inl five)) = inr five
+      by (inr (inr grown)) = absurd (optimisable_not_grown can grown.1)

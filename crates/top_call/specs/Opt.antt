@@ -1,0 +1,177 @@
+-- What `opt` makes of a module and its profile, and how it may end.
+use Rattle.std.specs.Prelude.{◌≡◌, ◌≢◌, ◌⊎◌, ◌<◌, ◌≤◌, ℕ, List, length, codes, All, IsTrue, Some, Ok, Err}
+use Rattle.mc_host.specs.Faults.{Rose}
+use Rattle.mc_host.specs.Host.{HostState, IsBeforeOrPart, KeepsRights}
+use Rattle.ir_types.specs.Program.{Program}
+use Rattle.ir_types.specs.WellFormed.{IsWellFormed}
+use Rattle.ir_types.specs.Limits.{IsWithinLimits}
+use Rattle.ir_printer.specs.Text.{text_of}
+use Rattle.ir_reader.specs.Reading.{ReadsBack}
+use Rattle.ir_machine.specs.Same.{Same}
+use Rattle.profile.specs.declared.counts.FnCounts.{FnCounts}
+use Rattle.profile.specs.declared.reading.ProfileError.{ProfileError}
+use Rattle.profile.specs.Reading as profile
+use Rattle.optimise.specs.Optimised.{IsOptimised}
+use Rattle.top_call.specs.declared.ending.Problem.{Problem}
+use Rattle.top_call.specs.declared.ending.Problem.TheVariants.{TooLong, Text, Grown, NoMain, LongProfile, BadProfile}
+use Rattle.top_call.specs.declared.ending.ProfileProblem.{ProfileProblem}
+use Rattle.top_call.specs.declared.ending.Done.TheVariants.{Written}
+use Rattle.top_call.specs.declared.ending.Stop.TheVariants.{Refused, ReadFault, WriteFault, OutOfMemory}
+use Rattle.top_call.specs.Ending.{Ending}
+use Rattle.top_call.specs.Row.{OptFiles}
+use Rattle.top_call.specs.Print.{HasProblem, ReadsAs, text_limit}
+use Rattle.top_call.specs.RefusedProfile.{problem_of}
+
+-- ---- what is read
+
+-- the file is the profile of these counts of the module
+pub record HasCounts (host : HostState) (name : List ℕ) (program : Program) (counts : List FnCounts) : Type 0 where
+  pub content : List ℕ
+  pub holds : host.file name ≡ Some content
+  pub short : length content ≤ text_limit
+  pub reads : profile.Reads program content counts
+
+-- the bytes are refused as a profile of the module, with this problem
+pub record IsBadProfile (program : Program) (content : List ℕ) (problem : ProfileProblem) : Type 0 where
+  pub error : ProfileError
+  pub refuses : profile.Refuses program content error
+  pub is_problem : problem_of error ≡ Some problem
+
+pub record HasBadProfile (host : HostState) (name : List ℕ) (program : Program) (problem : ProfileProblem) : Type 0 where
+  pub content : List ℕ
+  pub holds : host.file name ≡ Some content
+  pub short : length content ≤ text_limit
+  pub bad : IsBadProfile program content problem
+
+-- the module and the profile are accepted
+pub record AreAccepted (files : OptFiles) (host : HostState) (program : Program) : Type 0 where
+  pub reads : ReadsAs host files.input program
+  pub counts : List FnCounts
+  pub profile : HasCounts host files.profile program counts
+
+-- a file can't be read: the module is too long or its text is refused, or else the profile is
+abbrev pub HasFileProblem : OptFiles → HostState → Problem → Type 0
+HasFileProblem files host TooLong = HasProblem host files.input TooLong
+HasFileProblem files host (Text refusal excerpt) = HasProblem host files.input (Text refusal excerpt)
+HasFileProblem files host LongProfile = (program : Program) × ReadsAs host files.input program × HasProblem host files.profile TooLong
+HasFileProblem files host (BadProfile problem) = (program : Program) × ReadsAs host files.input program × HasBadProfile host files.profile program problem
+HasFileProblem files host Grown = ⊥
+HasFileProblem files host NoMain = ⊥
+
+-- the file that has the problem
+abbrev pub refused_file : OptFiles → Problem → List ℕ
+refused_file files LongProfile = files.profile
+refused_file files (BadProfile problem) = files.profile
+refused_file files _ = files.input
+
+-- ---- what is made of it
+
+-- this is the module and the profile of the files, optimised
+pub record OptimisesTo (files : OptFiles) (host : HostState) (program' : Program) : Type 0 where
+  pub program : Program
+  pub accepted : AreAccepted files host program
+  pub optimised : IsOptimised program program'
+
+-- the module is too large: its text is too long, or a function has more than it may
+abbrev pub IsGrown : Program → Type 0
+IsGrown program' = (text_limit < length (text_of program')) ⊎ ¬ (All IsWithinLimits program'.functions)
+
+-- the module isn't too large, and its text reads back as that module
+pub record IsFit (program' : Program) : Type 0 where
+  pub fits : length (text_of program') ≤ text_limit
+  pub limits : All IsWithinLimits program'.functions
+  pub back : ReadsBack program'
+
+-- the files are accepted, and the optimised module is too large
+abbrev pub HasGrown : OptFiles → HostState → Type 0
+HasGrown files host = (program' : Program) × OptimisesTo files host program' × IsGrown program'
+
+-- the files are accepted, and the optimised module isn't too large
+pub record AreOptimisable (files : OptFiles) (host : HostState) : Type 0 where
+  pub program : Program
+  pub accepted : AreAccepted files host program
+  pub not_grown : (program' : Program) → IsOptimised program program' → ¬ (IsGrown program')
+
+-- nothing can be written: a file can't be read, or the optimised module is too large
+abbrev pub HasOptProblem : OptFiles → HostState → Problem → Type 0
+HasOptProblem files host Grown = HasGrown files host
+HasOptProblem files host problem = HasFileProblem files host problem
+
+-- where the profile is refused, what the module's file reads as keeps the rules of modules
+abbrev pub KeepsRules : OptFiles → HostState → Problem → Type 0
+KeepsRules files host (BadProfile problem) = (program : Program) × ReadsAs host files.input program × IsWellFormed program
+KeepsRules files host _ = Unit {0}
+
+-- ---- what is written
+
+-- a certificate that names no function yet
+abbrev pub certificate_text : List ℕ
+certificate_text = codes "{\"functions\":[],\"version\":1}"
+
+-- program' is the optimised module: it isn't too large, its text reads back, and it and what is read do what the module does
+pub record IsOutput (files : OptFiles) (host : HostState) (program' : Program) : Type 0 where
+  pub optimises : OptimisesTo files host program'
+  pub rules : IsWellFormed optimises.program
+  pub same : Same optimises.program program'
+  pub fit : IsFit program'
+  pub again : Same optimises.program fit.back.again
+
+-- OUT holds exactly the text of the optimised module, and CERT its certificate
+pub record IsOptDone (files : OptFiles) (old new : HostState) : Type 0 where
+  pub program' : Program
+  pub is_output : IsOutput files old program'
+  pub output : new.file files.output ≡ Some (text_of program')
+  pub certificate : new.file files.certificate ≡ Some certificate_text
+
+-- OUT is as before or holds a first part of its text, and CERT is as before; or OUT holds all of it, and CERT is as before or
+-- holds a first part of its text
+abbrev pub LeavesParts : OptFiles → (text : List ℕ) → HostState → HostState → Type 0
+LeavesParts files text old new =
+    (IsBeforeOrPart files.output text old new × (new.file files.certificate ≡ old.file files.certificate))
+    ⊎ ((new.file files.output ≡ Some text) × IsBeforeOrPart files.certificate certificate_text old new)
+
+-- no file changed, or the two hold parts of their texts
+abbrev pub LeavesOptParts : OptFiles → HostState → HostState → Type 0
+LeavesOptParts files old new =
+    (new.file ≡ old.file)
+    ⊎ ((program' : Program) × IsOutput files old program' × LeavesParts files (text_of program') old new)
+
+-- ---- endings
+
+-- OUT could not be written; CERT is as before
+abbrev pub IsOutputFault : OptFiles → HostState → HostState → (name : List ℕ) → Type 0
+IsOutputFault files old new name =
+    (name ≡ files.output) × (new.file files.certificate ≡ old.file files.certificate)
+    × (IsTrue old.tells → (program' : Program) × IsOutput files old program' × IsBeforeOrPart files.output (text_of program') old new)
+
+-- OUT was written whole, and CERT could not be written
+abbrev pub IsCertificateFault : OptFiles → HostState → HostState → (name : List ℕ) → Type 0
+IsCertificateFault files old new name =
+    (name ≡ files.certificate)
+    × (IsTrue old.tells → (program' : Program) × IsOutput files old program' × (new.file files.output ≡ Some (text_of program'))
+    × IsBeforeOrPart files.certificate certificate_text old new)
+
+-- the file that could not be read: the module's, or else the profile's
+abbrev pub IsUnread : OptFiles → HostState → (name : List ℕ) → Type 0
+IsUnread files old name =
+    (name ≡ files.input) ⊎ ((name ≡ files.profile) × (IsTrue old.tells → (program : Program) × ReadsAs old files.input program))
+
+-- the endings of `opt`, each with its cause and with what it leaves
+abbrev pub OptEnds : OptFiles → HostState → HostState → Ending → Type 0
+OptEnds files old new (Ok Written) = IsTrue old.tells → IsOptDone files old new
+OptEnds files old new (Err (Refused file problem)) =
+    (file.now ≡ refused_file files problem) × (new.file ≡ old.file)
+    × (IsTrue old.tells → HasOptProblem files old problem × KeepsRules files old problem)
+OptEnds files old new (Err (ReadFault name)) =
+    (new.file ≡ old.file) × Rose old.read_faults new.read_faults × IsUnread files old name.now
+OptEnds files old new (Err (WriteFault name)) =
+    Rose old.write_faults new.write_faults × (IsOutputFault files old new name.now ⊎ IsCertificateFault files old new name.now)
+OptEnds files old new (Err OutOfMemory) = IsTrue old.tells → LeavesOptParts files old new
+OptEnds files old new _ = ⊥
+
+-- no file changes but those that are written, and no count falls
+pub record OnlyOptimises (files : OptFiles) (old new : HostState) : Type 0 where
+  pub rights : KeepsRights old new
+  pub others : (other : List ℕ) → other ≢ files.output → other ≢ files.certificate → new.file other ≡ old.file other
+  pub read_faults : old.read_faults ≤ new.read_faults
+  pub write_faults : old.write_faults ≤ new.write_faults

@@ -1,0 +1,157 @@
+//! The command `opt`: reads a module and its profile, and writes the optimised module and its certificate.
+ghost use Rattle.std.specs.Prelude.{◌≡◌, ◌≢◌, ◌≤◌, length, All, IsTrue, IfOk, IfErr, OnOk, Some};
+ghost use Rattle.mc_host.specs.Host.{HostState, OnlyReads};
+ghost use Rattle.ir_types.specs.Limits.{IsWithinLimits};
+ghost use Rattle.ir_types.specs.WellFormed.{IsWellFormed};
+ghost use Rattle.profile.specs.Reading as reading;
+ghost use Rattle.top_call.specs.Command.{files_of};
+ghost use Rattle.top_call.specs.Lines.{Answers};
+ghost use Rattle.top_call.specs.Opt.{certificate_text, OptEnds, OnlyOptimises};
+ghost use Rattle.top_call.specs.Print.{text_limit};
+ghost use Rattle.top_call.specs.Stops.{IsOptimisedText, StopsCounting, StopsOptimising, StopsWritingBoth};
+
+use crate::command::OptNames;
+use crate::ending::{Done, Problem, Stop};
+use crate::lines::finish;
+use crate::print::{parsed, printed, read_short, write_text};
+use crate::profile_lines::problem_of;
+use ir_check::within_limits;
+use ir_reader::reads_back;
+use ir_types::module::Module;
+use mc_host::{Host, Sink};
+use optimise::optimise;
+use plain_same::plain_same;
+use profile::{Profile, read_profile};
+use std::alloc::Global;
+
+/// A module keeps its rules. It does nothing.
+fn keeps_rules(program: &Module<'_>)
+    ensures { IsWellFormed program.now }
+{
+    let _functions = program.functions();
+}
+
+/// The counts that the bytes of a profile say.
+fn counted<'a>(
+    alloc: Global,
+    file: &'a str,
+    bytes: &[u8],
+    program: &Module<'_>,
+) -> Result<Profile, Stop<'a>>
+    requires { length bytes.now ≤ text_limit }
+    ensures read { IfOk result (λ profile. reading.Reads program.now bytes.now profile.functions) }
+    ensures stops { IfErr result (StopsCounting file.now bytes.now program.now) }
+{
+    match read_profile(alloc, bytes, program) {
+        Ok(profile) => Ok(profile),
+        Err(error) => match problem_of(error) {
+            Some(problem) => Err(Stop::Refused {
+                file,
+                problem: Problem::BadProfile(problem),
+            }),
+            None => Err(Stop::OutOfMemory),
+        },
+    }
+}
+
+/// The text of the optimised module.
+fn optimised_text<'a>(
+    alloc: Global,
+    file: &'a str,
+    program: &Module<'_>,
+) -> Result<Vec<u8>, Stop<'a>>
+    requires { All IsWithinLimits program.now.functions }
+    ensures text { IfOk result (λ text. IsOptimisedText program.now text.items) }
+    ensures stops { IfErr result (StopsOptimising file.now program.now) }
+{
+    let Ok(optimised) = optimise(alloc, program) else {
+        return Err(Stop::OutOfMemory);
+    };
+    if !within_limits(&optimised) {
+        return Err(Stop::Refused {
+            file,
+            problem: Problem::Grown,
+        });
+    }
+    keeps_rules(&optimised);
+    reads_back();
+    plain_same();
+    printed(alloc, file, &optimised)
+}
+
+/// The text of a certificate that names no function yet.
+fn certificate<'a>() -> &'a [u8]
+    ensures { result.now ≡ certificate_text }
+{
+    b"{\"functions\":[],\"version\":1}"
+}
+
+/// Writes the text of the optimised module, and then its certificate.
+fn write_both<'a, H: Host>(
+    alloc: Global,
+    host: &mut H,
+    names: OptNames<'a>,
+    text: &[u8],
+) -> Result<(), Stop<'a>>
+    requires output { IsTrue ((H.state host.old).may_write names.output.now) }
+    requires certificate { IsTrue ((H.state host.old).may_write names.certificate.now) }
+    requires differ { names.output.now ≢ names.certificate.now }
+    ensures output { OnOk result (IsTrue (H.state host.old).tells → (H.state host.new).file names.entry.output.now ≡ Some text.now) }
+    ensures certificate { OnOk result (IsTrue (H.state host.old).tells → (H.state host.new).file names.entry.certificate.now ≡ Some certificate_text) }
+    ensures stops { IfErr result (StopsWritingBoth (files_of names.entry) text.now (H.state host.old) (H.state host.new)) }
+    ensures rest { OnlyOptimises (files_of names.entry) (H.state host.old) (H.state host.new) }
+{
+    write_text(alloc, host, names.output, text)?;
+    write_text(alloc, host, names.certificate, certificate())
+}
+
+/// Optimises what `source` reads as, by the profile that is named; `source` are the bytes of the module's file.
+fn opt_source<'a, H: Host>(
+    alloc: Global,
+    host: &mut H,
+    names: OptNames<'a>,
+    source: &'a [u8],
+) -> Result<Done, Stop<'a>>
+    requires short { length source.now ≤ text_limit }
+    requires profile { IsTrue ((H.state host.old).may_read names.profile.now) }
+    requires output { IsTrue ((H.state host.old).may_write names.output.now) }
+    requires certificate { IsTrue ((H.state host.old).may_write names.certificate.now) }
+    requires differ { names.output.now ≢ names.certificate.now }
+    // However the host stood before the file was read.
+    ensures ends { (before : HostState) → OnlyReads before (H.state host.old) → (IsTrue before.tells → before.file names.entry.input.now ≡ Some source.now) →
+        OptEnds (files_of names.entry) before (H.state host.new) result }
+    ensures rest { OnlyOptimises (files_of names.entry) (H.state host.old) (H.state host.new) }
+{
+    let program = parsed(alloc, names.input, source)?;
+    keeps_rules(&program);
+    let profile = read_short(alloc, host, names.profile, Problem::LongProfile)?;
+    let _counts = counted(alloc, names.profile, &profile, &program)?;
+    let text = optimised_text(alloc, names.input, &program)?;
+    write_both(alloc, host, names, &text)?;
+    Ok(Done::Written)
+}
+
+/// Optimises the module of a file by its profile, puts the line of its ending on `err`, and gives its status. What stops
+/// it, and what it then leaves, is told by each ending of `OptEnds`.
+pub(crate) fn opt_file<H: Host, E: Sink>(
+    alloc: Global,
+    host: &mut H,
+    err: &mut E,
+    names: OptNames<'_>,
+) -> u8
+    requires input { IsTrue ((H.state host.old).may_read names.input.now) }
+    requires profile { IsTrue ((H.state host.old).may_read names.profile.now) }
+    requires output { IsTrue ((H.state host.old).may_write names.output.now) }
+    requires certificate { IsTrue ((H.state host.old).may_write names.certificate.now) }
+    requires differ { names.output.now ≢ names.certificate.now }
+    ensures ends { Answers (E.state err.old) (E.state err.new) result (OptEnds (files_of names.entry) (H.state host.old) (H.state host.new)) }
+    ensures rest { OnlyOptimises (files_of names.entry) (H.state host.old) (H.state host.new) }
+{
+    match read_short(alloc, host, names.input, Problem::TooLong) {
+        Ok(source) => {
+            let ending = opt_source(alloc, host, names, &source);
+            finish(err, ending)
+        }
+        Err(stop) => finish(err, Err(stop)),
+    }
+}
