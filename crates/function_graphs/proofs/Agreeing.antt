@@ -1,9 +1,7 @@
 -- Two readings of what occurs and kills, alike at every point, tell the same of a placement.
-use Rattle.std.proofs.Common.{◌≡◌, ◌<◌, ◌≤◌, ◌↔◌, ℕ, Bool, List, length, refl, sym, ◌∙◌, subst, arith, ⊎_elim}
+use Rattle.std.proofs.Common.{◌≡◌, ◌<◌, ◌≤◌, ◌↔◌, ℕ, Bool, List, length, refl, sym, ◌∙◌, subst, ⊎_elim}
 use Rattle.std.proofs.lemmas.Bool.{cases_lt}
-use Rattle.std.proofs.lemmas.List.{length-map}
 use Rattle.ir_types.specs.declared.syntax.Function.{Function}
-use Rattle.point_graph.specs.declared.graph.Edge as numbered
 use Rattle.point_graph.specs.declared.graph.Points.{Points}
 use Rattle.expressions.specs.declared.syntax.Event.{Event}
 use Rattle.expressions.specs.declared.syntax.Event.TheVariants.{Occurs, Kills as KillsIt, Passes}
@@ -14,9 +12,10 @@ use Rattle.flow_paths.specs.Paths.{Place, at_point, on_edge, target}
 use Rattle.placement.specs.declared.placements.Placement.{Placement}
 use Rattle.placement.specs.Placements.{arcs_of, Writes, Kills, IsCorrect, IsLiveAt}
 use Rattle.placement.proofs.EventLemmas.{one_event, event_inside}
+use Rattle.best_choice.specs.Best.{IsPlacementOn}
 use Rattle.best_placement.specs.Blocks.{HasEvent}
 use Rattle.best_placement.specs.Laws.{IsPlacement}
-use Rattle.function_graphs.specs.Graphs.{graph_of, IsPlacementOf, AreEventsOf, Agrees, PlacementsAgree}
+use Rattle.function_graphs.specs.Graphs.{graph_of, AreEventsOf, Agrees, PlacementsAgree}
 
 module _ (Is Js : ℕ → Event → Type 0) (occurs : (v : ℕ) → Is v Occurs ↔ Js v Occurs) (kills : (v : ℕ) → Is v KillsIt ↔ Js v KillsIt) (p : Placement) where
   writes_too : (m : Place) → Writes Is p m → Writes Js p m
@@ -81,23 +80,23 @@ module _ (f : Function) (p : Points) (t : Kept) (e : ℕ) (event : ℕ → Event
     live_too (IsEventOf f p t e) (HasEvent event) occurs_from kills_from placement (arcs_of p.edges) v,
   )
 
-  pub placement_same : (c : FnCounts) (reached : ℕ → Bool) (placement : Placement) → IsPlacement (graph_of f p c reached event) placement ↔ IsPlacementOf f p t e placement
-  placement_same c reached placement =
-      let count : length (arcs_of p.edges) ≡ length p.edges = length-map {B = ℕ × ℕ} p.edges (λ (x : numbered.Edge). (x.from, x.to)) in (
-        (λ h. record {
-          inserted_order = h.inserted_order;
-          edges = λ k d lt. let l = h.edges k d lt in omega (arith, l, count);
-          kept_order = h.kept_order;
-          occurrences = λ k d lt. (occurs_told _).0 (h.occurrences k d lt);
-        }),
-        (λ h. record {
-          inserted_order = h.inserted_order;
-          edges = λ k d lt. let l = h.edges k d lt in omega (arith, l, count);
-          kept_order = h.kept_order;
-          points = λ k d lt. event_inside f p t e _ Occurs (h.occurrences k d lt);
-          occurrences = λ k d lt. (occurs_told _).1 (h.occurrences k d lt);
-        }),
-      )
+  pub placement_same : (c : FnCounts) (reached : ℕ → Bool) (placement : Placement) → IsPlacement (graph_of f p c reached event) placement ↔ IsPlacementOn (arcs_of p.edges) (length p.points) (IsEventOf f p t e) placement
+  placement_same c reached placement = (
+    (λ h. record {
+      inserted_order = h.inserted_order;
+      edges = h.edges;
+      kept_order = h.kept_order;
+      points = h.points;
+      occurrences = λ k d lt. (occurs_told _).0 (h.occurrences k d lt);
+    }),
+    (λ h. record {
+      inserted_order = h.inserted_order;
+      edges = h.edges;
+      kept_order = h.kept_order;
+      points = h.points;
+      occurrences = λ k d lt. (occurs_told _).1 (h.occurrences k d lt);
+    }),
+  )
 
   pub agrees : (c : FnCounts) (reached : ℕ → Bool) (placement : Placement) → Agrees f p t e c reached event placement
   agrees c reached placement = record {

@@ -1,6 +1,5 @@
 -- The graph of an expression in a function, with the weights of counts.
-use Rattle.std.specs.Prelude.{◌≡◌, ◌≤◌, ◌<◌, ◌↔◌, ◌==◌, ℕ, suc, Bool, List, [], ◌∷◌, All, length, map, slice_get, if◌then◌else◌}
-use Rattle.std.specs.List.Sorted.{IsStrictlyIncreasing}
+use Rattle.std.specs.Prelude.{◌≡◌, ◌≤◌, ◌<◌, ◌↔◌, ◌==◌, ℕ, suc, Bool, List, [], ◌∷◌, length, map, slice_get, if◌then◌else◌}
 use Rattle.std.specs.Option.{option_map_or}
 use Rattle.ir_types.specs.declared.syntax.Block.{Block}
 use Rattle.ir_types.specs.declared.syntax.Function.{Function}
@@ -9,7 +8,7 @@ use Rattle.flow_graph.specs.Paths.{AreReached}
 use Rattle.point_graph.specs.Numbers.{ArePoints}
 use Rattle.point_graph.specs.declared.graph.Points.{Points}
 use Rattle.expressions.specs.declared.syntax.Event.{Event}
-use Rattle.expressions.specs.declared.syntax.Event.TheVariants.{Occurs, Passes}
+use Rattle.expressions.specs.declared.syntax.Event.TheVariants.{Passes}
 use Rattle.expressions.specs.Kept.{Kept}
 use Rattle.expressions.specs.Tables.{IsTable, IsEventOf}
 use Rattle.profile.specs.declared.counts.FnCounts.{FnCounts}
@@ -17,6 +16,7 @@ use Rattle.profile.specs.Counts.{entering}
 use Rattle.placement.specs.declared.placements.Placement.{Placement}
 use Rattle.placement.specs.Placements.{arcs_of, IsCorrect, IsLiveAt, IsLiveOn}
 use Rattle.placement.specs.Costs.{weight_of, edge_count, point_count, cost_of}
+use Rattle.best_choice.specs.Best.{IsPlacementOn}
 use Rattle.best_placement.specs.Blocks.{HasEvent}
 use Rattle.best_placement.specs.Shapes.{Shape, shape_blocks}
 use Rattle.best_placement.specs.Laws.{ExpressionGraph, IsExpressionGraph, IsPlacement, IsCorrectOn, cost_on}
@@ -68,16 +68,9 @@ pub record IsIn (f : Function) (p : Points) (t : Kept) (e : ℕ) (reached : ℕ 
 abbrev pub FunctionsHaveGraphs : Type 0
 FunctionsHaveGraphs = (f : Function) (p : Points) (t : Kept) (e : ℕ) (c : FnCounts) (reached : ℕ → Bool) (event : ℕ → Event) → IsIn f p t e reached event → IsExpressionGraph (graph_of f p c reached event)
 
--- ascending lists of edges and of occurrences of the expression
-pub record IsPlacementOf (f : Function) (p : Points) (t : Kept) (e : ℕ) (placement : Placement) : Type 0 where
-  pub inserted_order : IsStrictlyIncreasing placement.inserted
-  pub edges : All (λ n. n < length p.edges) placement.inserted
-  pub kept_order : IsStrictlyIncreasing placement.kept
-  pub occurrences : All (λ v. IsEventOf f p t e v Occurs) placement.kept
-
 -- a placement is one, is correct, is live and costs on the graph as it does in the function
 pub record Agrees (f : Function) (p : Points) (t : Kept) (e : ℕ) (c : FnCounts) (reached : ℕ → Bool) (event : ℕ → Event) (placement : Placement) : Type 0 where
-  pub is_placement : IsPlacement (graph_of f p c reached event) placement ↔ IsPlacementOf f p t e placement
+  pub is_placement : IsPlacement (graph_of f p c reached event) placement ↔ IsPlacementOn (arcs_of p.edges) (length p.points) (IsEventOf f p t e) placement
   pub correct : IsCorrectOn (graph_of f p c reached event) placement ↔ IsCorrect (arcs_of p.edges) (IsEventOf f p t e) placement
   pub live_at : (v : ℕ) → IsLiveAt (arcs_of p.edges) (HasEvent event) placement v ↔ IsLiveAt (arcs_of p.edges) (IsEventOf f p t e) placement v
   pub live_on : (n : ℕ) → IsLiveOn (arcs_of p.edges) (HasEvent event) placement n ↔ IsLiveOn (arcs_of p.edges) (IsEventOf f p t e) placement n
