@@ -1,0 +1,2 @@
+mod SameNets
+mod Solving

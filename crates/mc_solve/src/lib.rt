@@ -1,0 +1,103 @@
+//! The best placement of an expression by the counts of a function.
+#![tactic(auto)]
+
+ghost use Rattle.std.specs.Prelude.{◌≡◌, ℕ, Bool, ◌+◌, ◌*◌, ◌<◌, ◌≤◌, ◌^◌, IfOk, length};
+ghost use Rattle.point_graph.specs.Numbers.{ArePoints};
+ghost use Rattle.expressions.specs.declared.syntax.Event.{Event};
+ghost use Rattle.expressions.specs.Tables.{IsTable};
+ghost use Rattle.profile.specs.Counts.{HasSlots, IsUnreachedZero, total};
+ghost use Rattle.flow_net.specs.declared.Net.{Net};
+ghost use Rattle.flow_net.specs.Network.{IsValid};
+ghost use Rattle.best_choice.specs.Best.{IsBestIn};
+ghost use Rattle.best_placement.specs.Laws.{IsBlockNetwork};
+ghost use Rattle.function_graphs.specs.Graphs.{graph_of, IsIn};
+ghost use Rattle.mc_solve.specs.Solved.{IsSolved};
+
+use expressions::Table;
+use flow_net::Flow;
+use ir_types::syntax::Function;
+use latest_cut::{Cut, latest};
+use local_sets::local_sets;
+use max_flow::{Steps, max_flow};
+use mc_num::NoMemory;
+use placement::Placement;
+use point_graph::Points;
+use profile::FnCounts;
+use read_off::read_off;
+use reduction::{BlockNet, network};
+use std::alloc::Global;
+use std::sync::ledger::Ledger;
+
+/// The best placement of an expression, with what shows that it is the best.
+#[derive(Drop)]
+pub struct Solved {
+    pub placement: Placement,
+    /// A maximum flow of the block network, an amount for each of its arcs.
+    pub flow: Flow,
+    /// The latest least side of the block network, and the rank of each of its nodes.
+    pub cut: Cut,
+}
+
+/// The block network of the expression of this number.
+fn network_of(
+    alloc: Global,
+    function: &Function<'_>,
+    points: &Points,
+    table: &Table<'_, '_>,
+    e: u32,
+    counts: &FnCounts,
+) -> Result<BlockNet, NoMemory>
+    requires defined { 0 < length function.now.blocks }
+    requires points { ArePoints function.now points.now }
+    requires table { IsTable function.now points.now table.now }
+    requires expression { e < length table.now.exprs }
+    requires slots { HasSlots function.now counts.now }
+    requires unreached { IsUnreachedZero function.now counts.now }
+    requires total { total counts.now < 2 ^ 62 }
+    ensures network { IfOk result (λ full. (reached : ℕ → Bool) (event : ℕ → Event) → IsIn function.now points.now table.now e reached event
+        → IsBlockNetwork (graph_of function.now points.now counts.now reached event) full.net) }
+    ensures nodes { IfOk result (λ full. full.net.nodes ≡ 2 + 2 * length points.now.blocks) }
+    ensures valid { IfOk result (λ full. IsValid full.net) }
+{
+    let sets = local_sets(alloc, function, points, table, e)?;
+    let full = network(alloc, function, points, &sets, counts)?;
+    Ok(full)
+}
+
+/// The best placement of the expression of this number: a correct one that costs least by the counts, and of those the
+/// one that lives least.
+///
+/// It is read off the latest minimum cut of the block network of the expression. Minimum cuts by the counts of a run are
+/// the method of Cai and Xue (2003), and the latest one is that of Xue and Cai (2006). `steps` counts the phases of the
+/// flow. `NoMemory` where an allocation was refused.
+pub fn solve<L: Ledger>(
+    alloc: Global,
+    function: &Function<'_>,
+    points: &Points,
+    table: &Table<'_, '_>,
+    e: u32,
+    counts: &FnCounts,
+    steps: &mut Steps<L>,
+) -> Result<Solved, NoMemory>
+    requires defined { 0 < length function.now.blocks }
+    requires points { ArePoints function.now points.now }
+    requires table { IsTable function.now points.now table.now }
+    requires expression { e < length table.now.exprs }
+    requires slots { HasSlots function.now counts.now }
+    requires unreached { IsUnreachedZero function.now counts.now }
+    requires total { total counts.now < 2 ^ 62 }
+    ensures best { IfOk result (λ s. IsBestIn function.now points.now table.now e counts.now s.placement) }
+    ensures solved { IfOk result (λ s. (reached : ℕ → Bool) (event : ℕ → Event) (net : Net) → IsIn function.now points.now table.now e reached event
+        → IsBlockNetwork (graph_of function.now points.now counts.now reached event) net → IsSolved function.now points.now counts.now reached event net s) }
+    ensures phases { steps.new ≤ steps.old + (2 + 2 * length points.now.blocks) }
+{
+    let full = network_of(alloc, function, points, table, e, counts)?;
+    let flow = max_flow(alloc, &full.net, steps)?;
+    let cut = latest(alloc, &full.net, &flow)?;
+    let placement = read_off(alloc, function, points, table, e, &cut.sink_side)?;
+    Ok(Solved {
+        placement,
+        flow,
+        cut,
+    })
+}
