@@ -1,0 +1,172 @@
+//! The placement that `solve` gives, beside all placements.
+ghost use Rattle.std.specs.Prelude.{◌≡◌, ◌<◌, ◌^◌, length};
+ghost use Rattle.point_graph.specs.Numbers.{ArePoints};
+ghost use Rattle.expressions.specs.Tables.{IsTable};
+ghost use Rattle.profile.specs.Counts.{HasSlots, IsUnreachedZero, total};
+
+use crate::listing::places;
+use crate::telling::{Told, told};
+use expressions::Table;
+use ir_types::syntax::Function;
+use max_flow::Steps;
+use mc_num::NoMemory;
+use mc_solve::{Solved, solve};
+use placement::Placement;
+use point_graph::Points;
+use profile::FnCounts;
+use std::alloc::Global;
+use std::marker::Brand;
+use std::sync::ledger::{Blank, Ledger};
+
+/// How the placement of `solve` isn't the best one.
+#[derive(Clone, Copy, Debug, PartialEq, Eq)]
+pub enum Difference {
+    /// There are too many places to look at all placements.
+    Places,
+    /// The placement names no edge or point, or its numbers don't ascend.
+    Listed,
+    Incorrect,
+    /// A correct one costs less.
+    Cost,
+    /// A correct one costs as much and isn't live where this one is.
+    Lives,
+    /// It isn't among all placements.
+    Missing,
+}
+
+/// What `solve` gives for an expression.
+pub fn solved(
+    alloc: Global,
+    function: &Function<'_>,
+    points: &Points,
+    table: &Table<'_, '_>,
+    e: u32,
+    counts: &FnCounts,
+) -> Result<Solved, NoMemory>
+    requires defined { 0 < length function.now.blocks }
+    requires points { ArePoints function.now points.now }
+    requires table { IsTable function.now points.now table.now }
+    requires expression { e < length table.now.exprs }
+    requires slots { HasSlots function.now counts.now }
+    requires unreached { IsUnreachedZero function.now counts.now }
+    requires total { total counts.now < 2 ^ 62 }
+{
+    solved_on::<Brand>(alloc, Blank::new(1), function, points, table, e, counts)
+}
+
+fn solved_on<L: Ledger>(
+    alloc: Global,
+    blank: Blank,
+    function: &Function<'_>,
+    points: &Points,
+    table: &Table<'_, '_>,
+    e: u32,
+    counts: &FnCounts,
+) -> Result<Solved, NoMemory>
+    requires name { blank.name ≡ L.name }
+    requires parts { blank.parts ≡ L.parts }
+    requires some { 0 < blank.parts }
+    requires defined { 0 < length function.now.blocks }
+    requires points { ArePoints function.now points.now }
+    requires table { IsTable function.now points.now table.now }
+    requires expression { e < length table.now.exprs }
+    requires slots { HasSlots function.now counts.now }
+    requires unreached { IsUnreachedZero function.now counts.now }
+    requires total { total counts.now < 2 ^ 62 }
+{
+    let mut steps = Steps::<L>::new(blank);
+    solve(alloc, function, points, table, e, counts, &mut steps)
+}
+
+/// Whether the second list has each bit that the first has.
+fn are_within(bits: &[bool], others: &[bool]) -> bool {
+    for (bit, other) in bits.iter().zip(others) {
+        if *bit && !*other {
+            return false;
+        }
+    }
+    true
+}
+
+/// How another placement shows that one isn't the best.
+fn difference(best: &Told, other: &Told) -> Option<Difference> {
+    if !other.is_correct || other.cost > best.cost {
+        None
+    } else if other.cost < best.cost {
+        Some(Difference::Cost)
+    } else if are_within(&best.points, &other.points) && are_within(&best.edges, &other.edges) {
+        None
+    } else {
+        Some(Difference::Lives)
+    }
+}
+
+/// Whether two placements are the same.
+fn are_same(one: &Placement, other: &Placement) -> bool {
+    one.inserted.as_slice() == other.inserted.as_slice()
+        && one.kept.as_slice() == other.kept.as_slice()
+}
+
+/// How some of all placements shows that one isn't the best.
+fn compare_all(
+    alloc: Global,
+    function: &Function<'_>,
+    points: &Points,
+    table: &Table<'_, '_>,
+    e: u32,
+    counts: &FnCounts,
+    found: &Placement,
+    best: &Told,
+) -> Result<Option<Difference>, NoMemory>
+    requires points { ArePoints function.now points.now }
+    requires table { IsTable function.now points.now table.now }
+    requires expression { e < length table.now.exprs }
+    requires slots { HasSlots function.now counts.now }
+    requires unreached { IsUnreachedZero function.now counts.now }
+    requires total { total counts.now < 2 ^ 62 }
+{
+    let places = places(alloc, function, points, table, e)?;
+    let Some(sets) = places.sets() else {
+        return Ok(Some(Difference::Places));
+    };
+    let mut is_listed = false;
+    for set in 0..sets {
+        let placement = places.placement(alloc, set)?;
+        is_listed = is_listed || are_same(&placement, found);
+        if let Some(other) = told(alloc, function, points, table, e, counts, &placement)?
+            && let Some(difference) = difference(best, &other)
+        {
+            return Ok(Some(difference));
+        }
+    }
+    Ok(if is_listed {
+        None
+    } else {
+        Some(Difference::Missing)
+    })
+}
+
+/// How the placement of `solve` isn't the best one, if it isn't.
+pub fn compare(
+    alloc: Global,
+    function: &Function<'_>,
+    points: &Points,
+    table: &Table<'_, '_>,
+    e: u32,
+    counts: &FnCounts,
+) -> Result<Option<Difference>, NoMemory>
+    requires defined { 0 < length function.now.blocks }
+    requires points { ArePoints function.now points.now }
+    requires table { IsTable function.now points.now table.now }
+    requires expression { e < length table.now.exprs }
+    requires slots { HasSlots function.now counts.now }
+    requires unreached { IsUnreachedZero function.now counts.now }
+    requires total { total counts.now < 2 ^ 62 }
+{
+    let found = solved(alloc, function, points, table, e, counts)?.placement;
+    match told(alloc, function, points, table, e, counts, &found)? {
+        None => Ok(Some(Difference::Listed)),
+        Some(best) if !best.is_correct => Ok(Some(Difference::Incorrect)),
+        Some(best) => compare_all(alloc, function, points, table, e, counts, &found, &best),
+    }
+}
