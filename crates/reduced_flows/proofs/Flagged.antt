@@ -1,8 +1,8 @@
 -- What the flags of the ends of blocks tell of the nodes of a block network.
-use Rattle.std.proofs.Common.{◌≡◌, ◌<◌, ◌≤◌, ◌+◌, ◌*◌, ◌&&◌, ◌⊎◌, ◌↔◌, not, ℕ, suc, zero, Bool, true, false, List, [], ◌∷◌, length, map, get_or, Some, refl, sym, ap, ◌∙◌, subst, inl, inr, ⊎_elim, arith}
+use Rattle.std.proofs.Common.{◌≡◌, ◌<◌, ◌≤◌, ◌+◌, ◌*◌, ◌&&◌, ◌↔◌, not, ℕ, suc, zero, Bool, true, false, List, [], ◌∷◌, length, map, get_or, refl, sym, ap, ◌∙◌, subst, ⊎_elim, arith}
 use Rattle.std.specs.Prelude.{slice_get}
 use Rattle.std.specs.List.{AllByRecursion, AllZip}
-use Rattle.std.proofs.lemmas.Bool.{cases_Bool, cases_lt, and_parts, and_from}
+use Rattle.std.proofs.lemmas.Bool.{cases_lt}
 use Rattle.ir_types.specs.declared.syntax.Function.{Function}
 use Rattle.point_graph.specs.declared.graph.Points.{Points}
 use Rattle.expressions.specs.declared.syntax.Event.{Event}
@@ -10,16 +10,13 @@ use Rattle.expressions.specs.declared.syntax.Event.TheVariants.{Occurs, Kills, P
 use Rattle.expressions.specs.Kept.{Kept}
 use Rattle.expressions.specs.Tables.{IsEventOf}
 use Rattle.profile.specs.declared.counts.FnCounts.{FnCounts}
-use Rattle.placement.specs.Placements.{arcs_of}
 use Rattle.placement.proofs.EventLemmas.{one_event, event_inside}
 use Rattle.local_sets.specs.declared.flags.Reach.{Reach}
-use Rattle.local_sets.specs.Reaching.{ends_of, IsAvailable, IsWanted, Tells}
+use Rattle.local_sets.specs.Reaching.{ends_of, Tells}
 use Rattle.best_placement.specs.Blocks as graphs
-use Rattle.best_placement.specs.BlockNetwork.{head_node, terminator_node}
 use Rattle.best_placement.specs.Shapes.{blocks_from, next_point, next_edge}
 use Rattle.best_placement.specs.Reduction.{IsSplit}
-use Rattle.best_placement.proofs.Lists.{each_both, each_weaker}
-use Rattle.function_graphs.specs.Graphs.{graph_of, AreEventsOf}
+use Rattle.function_graphs.specs.Graphs.{AreEventsOf}
 use Rattle.function_graphs.proofs.Lying.{LieFrom, shape}
 use Rattle.reduction.specs.Reduced.{is_flagged, is_needed}
 

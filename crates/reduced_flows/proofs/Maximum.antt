@@ -1,7 +1,7 @@
 -- A maximum flow of the needed part of a network, with nothing on the other arcs, is a maximum flow of the whole.
-use Rattle.std.proofs.Common.{◌≡◌, ◌≤◌, ◌<◌, ◌==◌, ◌&&◌, ◌||◌, not, ℕ, suc, zero, Bool, true, false, cond, List, [], ◌∷◌, All, length, refl, sym, ap, ◌∙◌, subst, inl, inr, arith}
-use Rattle.std.specs.Prelude.{Some, slice_get, filter}
-use Rattle.std.specs.List.{sum_by, zip, range_with_len, AllByRecursion}
+use Rattle.std.proofs.Common.{◌≡◌, ◌≤◌, ◌==◌, ◌&&◌, ◌||◌, not, ℕ, suc, zero, Bool, true, false, cond, List, length, refl, sym, ap, ◌∙◌, inl, inr, arith}
+use Rattle.std.specs.Prelude.{Some, slice_get}
+use Rattle.std.specs.List.{sum_by, AllByRecursion}
 use Rattle.std.proofs.lemmas.Bool.{cases_Bool, cases_eq, and_parts, or_left, eqb-true}
 use Rattle.std.proofs.lemmas.Bool.Decides.{nat_tests}
 use Rattle.std.proofs.lemmas.List.Elements.{recursion_from_All, All-from_recursion}
@@ -9,7 +9,7 @@ use Rattle.std.proofs.lemmas.Option.{same_Some, slice_get_within}
 use Rattle.flow_net.specs.declared.Arc.{Arc}
 use Rattle.flow_net.specs.declared.Net.{Net}
 use Rattle.flow_net.specs.declared.Flow.{Flow}
-use Rattle.flow_net.specs.Network.{IsWithin, IsBalanced, IsMaximum, IsSide, loads, inflow, outflow, flow_value, enters, capacity_where, capacity_into}
+use Rattle.flow_net.specs.Network.{IsWithin, IsBalanced, IsMaximum, IsSide, loads, inflow, outflow, flow_value, enters, capacity_into}
 use Rattle.flow_net.proofs.Sums.{sum_by-same, sum_by-firsts}
 use Rattle.best_placement.specs.Reduction.{IsSplit, Splits, is_part, widened}
 use Rattle.best_placement.proofs.Lists.{each_weaker}
@@ -17,7 +17,7 @@ use Rattle.best_placement.proofs.Widened.{part_sides_widen}
 use Rattle.function_graphs.specs.Graphs.{place_in}
 use Rattle.function_graphs.proofs.Lying.{place_found}
 use Rattle.reduced_flows.proofs.Merged.{Beside, Merges, sums_agree, merged_fits}
-use Rattle.reduced_flows.proofs.Named.{AreNamed, are_named}
+use Rattle.reduced_flows.proofs.Named.{AreNamed}
 
 eqb_is : (a b : ℕ) → a ≡ b → (a == b) ≡ true
 eqb_is a b h = grind (arith, nat_tests)
@@ -135,13 +135,13 @@ module _ (whole small_net : Net) (flow small : Flow) (needed part free : ℕ →
         (part_sides_widen part free by_name whole.arcs.items split
         (All-from_recursion (Splits part free) whole.arcs.items (each_weaker (λ a. Splits part free a × (a.to ≡ 0 → ⊥)) (Splits part free) (λ a h. h.0) whole.arcs.items sound)) name_side).1
         ∙ sum_by-same (λ (a : Arc). cond (is_part part a && enters by_name a) a.cap 0) pays_whole whole.arcs.items
-            (each_weaker (λ a. Splits part free a × (a.to ≡ 0 → ⊥)) (λ (a : Arc). cond (is_part part a && enters by_name a) a.cap 0 ≡ pays_whole a)
-            (λ a h. ap (λ t. cond (t && enters by_name a) a.cap 0) (joins_part a h)) whole.arcs.items sound)
+        (each_weaker (λ a. Splits part free a × (a.to ≡ 0 → ⊥)) (λ (a : Arc). cond (is_part part a && enters by_name a) a.cap 0 ≡ pays_whole a)
+        (λ a h. ap (λ t. cond (t && enters by_name a) a.cap 0) (joins_part a h)) whole.arcs.items sound)
         ∙ sym (sum_by-firsts pays_whole whole.arcs.items flow.amounts.items len)
         ∙ sums_agree node_of joins (λ (l : Arc × ℕ). pays_whole l.0) (λ (m : Arc × ℕ). pays_part m.0)
-            (λ l unkept none. ap (λ t. cond (t && enters by_name l.0) l.0.cap 0) unkept)
-            (λ l m is b e. ap (λ t. cond (t && enters by_name l.0) l.0.cap 0) is ∙ ap (λ t. cond t l.0.cap 0) (enters_named l.0 m.0 b) ∙ ap (λ x. cond (enters side m.0) x 0) (sym b.cap))
-            (loads whole flow) (loads small_net small) merged
+        (λ l unkept none. ap (λ t. cond (t && enters by_name l.0) l.0.cap 0) unkept)
+        (λ l m is b e. ap (λ t. cond (t && enters by_name l.0) l.0.cap 0) is ∙ ap (λ t. cond t l.0.cap 0) (enters_named l.0 m.0 b) ∙ ap (λ x. cond (enters side m.0) x 0) (sym b.cap))
+        (loads whole flow) (loads small_net small) merged
         ∙ sum_by-firsts pays_part small_net.arcs.items small.amounts.items max.within.len
 
     widened_side : IsSide (widened part free by_name)

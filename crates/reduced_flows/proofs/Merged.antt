@@ -1,5 +1,5 @@
 -- What flows on some arcs of a network, numbered anew, beside what flows on all of them.
-use Rattle.std.proofs.Common.{◌≡◌, ◌≤◌, ◌<◌, ◌+◌, ℕ, suc, zero, Bool, true, false, cond, List, [], ◌∷◌, length, get_or, refl, sym, ap, ◌∙◌, subst, ◌⊎◌, inl, inr, arith}
+use Rattle.std.proofs.Common.{◌≡◌, ◌≤◌, ◌<◌, ◌+◌, ℕ, suc, Bool, true, false, cond, List, [], ◌∷◌, length, get_or, refl, sym, ap, ◌∙◌, subst, ◌⊎◌, inl, inr, arith}
 use Rattle.std.specs.Prelude.{Some, slice_get, filter}
 use Rattle.std.specs.List.{sum_by, zip, range_with_len, AllZip, AllByRecursion}
 use Rattle.std.specs.Option.{option_map_or}

@@ -1,11 +1,11 @@
 -- How the arcs of a block network join the nodes that are wanted, available or neither.
-use Rattle.std.proofs.Common.{◌≡◌, ◌<◌, ◌+◌, ◌*◌, ◌⊎◌, ◌↔◌, ℕ, Bool, true, false, List, [], ◌∷◌, ◌++◌, All, length, map, refl, sym, ap, ◌∙◌, subst, inl, inr, arith}
+use Rattle.std.proofs.Common.{◌≡◌, ◌<◌, ◌⊎◌, ◌↔◌, ℕ, Bool, true, false, List, [], ◌∷◌, ◌++◌, All, length, map, refl, sym, ◌∙◌, subst, inl, inr, arith}
 use Rattle.std.specs.List.{AllByRecursion}
 use Rattle.std.proofs.lemmas.List.Elements.{All-contains, recursion_from_All}
 use Rattle.flow_net.specs.declared.Arc.{Arc}
 use Rattle.expressions.specs.declared.syntax.Event.{Event}
 use Rattle.expressions.specs.declared.syntax.Event.TheVariants.{Occurs, Kills, Bars, Passes}
-use Rattle.flow_paths.specs.Paths.{source, target, Connects}
+use Rattle.flow_paths.specs.Paths.{Connects}
 use Rattle.best_placement.specs.Blocks.{Block, IsBlock, IsSlot, IsFlowGraph, joined, edges_of_block, points_of_block}
 use Rattle.best_placement.specs.BlockNetwork.{head_node, terminator_node, first_event, last_event, first_arcs, last_arcs, slot_arcs, arcs_of_blocks, network_arcs}
 use Rattle.best_placement.specs.Reduction.{IsSplit, Splits}
@@ -75,28 +75,34 @@ module _ (arcs : List (ℕ × ℕ)) (points : ℕ) (blocks : List Block) (event 
       )
 
       first_sound : (k : Event) (w : ℕ) → first_event event b.steps ≡ k → AllByRecursion IsSound (first_arcs k b.index w)
-      first_sound Occurs w is = ((
-        record {
-          back = λ h. let none : free 1 ≡ false = split.sink.1 in cc;
-          wants = λ h. inr (known.ends.0.wanted_part (wanted_first arcs Is event occurs kills b.head b.steps head_no_kill known.is_block.leads steps_inside is));
-          leaves = λ e. omega arith;
-        },
-        λ e. omega arith,
-      ), tt)
+      first_sound Occurs w is = (
+        (
+          record {
+            back = λ h. let none : free 1 ≡ false = split.sink.1 in cc;
+            wants = λ h. inr (known.ends.0.wanted_part (wanted_first arcs Is event occurs kills b.head b.steps head_no_kill known.is_block.leads steps_inside is));
+            leaves = λ e. omega arith;
+          },
+          λ e. omega arith,
+        ),
+        tt,
+      )
       first_sound Kills w is = tt
       first_sound Bars w is = (across_sound w ((λ e. let same : Bars ≡ Occurs = sym is ∙ e in cc), (λ e. let same : Bars ≡ Kills = sym is ∙ e in cc)), tt)
       first_sound Passes w is = (across_sound w ((λ e. let same : Passes ≡ Occurs = sym is ∙ e in cc), (λ e. let same : Passes ≡ Kills = sym is ∙ e in cc)), tt)
 
       last_sound : (k : Event) (w : ℕ) → last_event event Passes b.steps ≡ k → AllByRecursion IsSound (last_arcs k b.index w)
       last_sound Occurs w is = tt
-      last_sound Kills w is = ((
-        record {
-          back = λ h. absurd (not_behind_last_kill arcs Is event occurs kills b.exit b.terminator edge_parts.1.0 known.is_block.leaves.1 b.head b.steps known.reached known.is_block.leads steps_inside known.is_block.leaves.0 is (known.ends.1.free_is.0 h));
-          wants = λ h. inl refl;
-          leaves = λ e. omega arith;
-        },
-        λ e. omega arith,
-      ), tt)
+      last_sound Kills w is = (
+        (
+          record {
+            back = λ h. absurd (not_behind_last_kill arcs Is event occurs kills b.exit b.terminator edge_parts.1.0 known.is_block.leaves.1 b.head b.steps known.reached known.is_block.leads steps_inside known.is_block.leaves.0 is (known.ends.1.free_is.0 h));
+            wants = λ h. inl refl;
+            leaves = λ e. omega arith;
+          },
+          λ e. omega arith,
+        ),
+        tt,
+      )
       last_sound Bars w is = tt
       last_sound Passes w is = tt
 
@@ -156,12 +162,14 @@ module _ (arcs : List (ℕ × ℕ)) (points : ℕ) (blocks : List Block) (event 
     pub network_sound : AllByRecursion IsSound (network_arcs event edge_weight blocks)
     network_sound =
         let s = graph.entry_to in
-        let there : IsTold (head_node 0) s.block.head = subst (λ i. IsTold (head_node i) s.block.head) s.has_index (All-contains AreTold blocks s.block told s.is_block).0 in
-        ((
-          record {
-            back = λ h. absurd (not_entered arcs Is event occurs kills 0 s.block.head all_edges.0 s.from s.to graph.start_passes (there.free_is.0 h));
-            wants = λ h. inl refl;
-            leaves = λ e. omega arith;
-          },
-          λ e. omega arith,
-        ), blocks_sound blocks all_known)
+        let there : IsTold (head_node 0) s.block.head = subst (λ i. IsTold (head_node i) s.block.head) s.has_index (All-contains AreTold blocks s.block told s.is_block).0 in (
+          (
+            record {
+              back = λ h. absurd (not_entered arcs Is event occurs kills 0 s.block.head all_edges.0 s.from s.to graph.start_passes (there.free_is.0 h));
+              wants = λ h. inl refl;
+              leaves = λ e. omega arith;
+            },
+            λ e. omega arith,
+          ),
+          blocks_sound blocks all_known,
+        )

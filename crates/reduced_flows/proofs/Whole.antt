@@ -1,5 +1,5 @@
 -- A maximum flow of the needed part of the block network of an expression is one of the whole.
-use Rattle.std.proofs.Common.{◌≡◌, ◌<◌, ◌≤◌, ◌+◌, ◌*◌, ◌⊎◌, ◌↔◌, not, ℕ, suc, zero, Bool, true, false, List, [], ◌∷◌, All, length, map, get_or, Some, refl, sym, ap, ◌∙◌, subst, inl, inr, arith}
+use Rattle.std.proofs.Common.{◌≡◌, ◌<◌, ◌≤◌, ◌+◌, ◌*◌, ◌↔◌, not, ℕ, suc, zero, Bool, true, false, List, length, get_or, Some, refl, sym, ap, ◌∙◌, subst, inl, inr, arith}
 use Rattle.std.specs.Prelude.{slice_get, filter, Contains}
 use Rattle.std.specs.List.{AllByRecursion, AllZip, range_with_len}
 use Rattle.std.proofs.lemmas.Bool.{cases_Bool, and_parts, and_from}
@@ -11,7 +11,6 @@ use Rattle.expressions.specs.declared.syntax.Event.{Event}
 use Rattle.expressions.specs.Kept.{Kept}
 use Rattle.expressions.specs.Tables.{IsEventOf}
 use Rattle.profile.specs.declared.counts.FnCounts.{FnCounts}
-use Rattle.placement.specs.Placements.{arcs_of}
 use Rattle.flow_net.specs.declared.Arc.{Arc}
 use Rattle.flow_net.specs.declared.Net.{Net}
 use Rattle.flow_net.specs.declared.Flow.{Flow}
