@@ -1,6 +1,7 @@
 -- Where an expression is available and where it is wanted, from arc to arc and along the steps of a block.
 use Rattle.std.proofs.Common.{◌≡◌, ◌<◌, ◌⊎◌, ◌↔◌, ℕ, Bool, true, false, List, [], ◌∷◌, ◌++◌, length, refl, sym, ap, ◌∙◌, subst, inl, inr}
 use Rattle.std.specs.List.{AllByRecursion}
+use Rattle.std.proofs.lemmas.Bool.{false≢true}
 use Rattle.std.proofs.lemmas.List.Elements.{All-nil, All-cons}
 use Rattle.expressions.specs.declared.syntax.Event.{Event}
 use Rattle.expressions.specs.declared.syntax.Event.TheVariants.{Occurs, Kills, Bars, Passes}
@@ -57,11 +58,16 @@ kills_last Kills before h = inl refl
 kills_last Bars before h = inr ((λ e. absurd cc), h)
 kills_last Passes before h = inr ((λ e. absurd cc), h)
 
-module _ (arcs : List (ℕ × ℕ)) (Is : ℕ → Event → Type 0) (event : ℕ → Event) (occurs : (v : ℕ) → Is v Occurs ↔ (event v ≡ Occurs)) (kills : (v : ℕ) → Is v Kills ↔ (event v ≡ Kills)) where
-  abbrev pub Available : ℕ → Type 0
+-- the events say what occurs and what kills
+pub record AreEvents (Is : ℕ → Event → Type 0) (event : ℕ → Event) : Type 0 where
+  pub occurs : (v : ℕ) → Is v Occurs ↔ (event v ≡ Occurs)
+  pub kills : (v : ℕ) → Is v Kills ↔ (event v ≡ Kills)
+
+module _ (arcs : List (ℕ × ℕ)) (Is : ℕ → Event → Type 0) (event : ℕ → Event) (are : AreEvents Is event) where
+  abbrev Available : ℕ → Type 0
   Available v = IsAvailable arcs Is v
 
-  abbrev pub Wanted : ℕ → Type 0
+  abbrev Wanted : ℕ → Type 0
   Wanted v = IsWanted arcs Is v
 
   abbrev mark : Place → Mark
@@ -71,19 +77,19 @@ module _ (arcs : List (ℕ × ℕ)) (Is : ℕ → Event → Type 0) (event : ℕ
   -- ---- available at the end of an arc
 
   writes_marked : (m : Place) → OccursAt Is m → mark m ≡ Write
-  writes_marked (at_point v) w = ap mark_of_event ((occurs v).0 w)
+  writes_marked (at_point v) w = ap mark_of_event ((are.occurs v).0 w)
   writes_marked (on_edge e) w = absurd w
 
   marked_writes : (m : Place) → mark m ≡ Write → OccursAt Is m
-  marked_writes (at_point v) w = (occurs v).1 (mark_writes (event v) w)
+  marked_writes (at_point v) w = (are.occurs v).1 (mark_writes (event v) w)
   marked_writes (on_edge e) w = absurd cc
 
   kills_marked : (m : Place) → placements.Kills Is m → mark m ≡ Kill
-  kills_marked (at_point v) w = ap mark_of_event ((kills v).0 w)
+  kills_marked (at_point v) w = ap mark_of_event ((are.kills v).0 w)
   kills_marked (on_edge e) w = absurd w
 
   marked_kills : (m : Place) → mark m ≡ Kill → placements.Kills Is m
-  marked_kills (at_point v) w = (kills v).1 (mark_kills (event v) w)
+  marked_kills (at_point v) w = (are.kills v).1 (mark_kills (event v) w)
   marked_kills (on_edge e) w = absurd cc
 
   carried_there : (places : List Place) → IsValid (OccursAt Is) (placements.Kills Is) places → carried mark places false ≡ true
@@ -119,12 +125,10 @@ module _ (arcs : List (ℕ × ℕ)) (Is : ℕ → Event → Type 0) (event : ℕ
 
   -- nothing is available behind a kill that some path reaches, nor at Start
   not_behind_kill : (e : ℕ) → e < length arcs → Connects arcs 0 (source arcs e) → event (source arcs e) ≡ Kills → Available (target arcs e) → ⊥
-  not_behind_kill e lt reached kill a =
-      let f : false ≡ true = ap (λ k. after_mark (mark_of_event k) (carried mark (met arcs reached.path) false)) (sym kill) ∙ carried_more e lt reached.path reached.leads a in
-      cc
+  not_behind_kill e lt reached kill a = false≢true (ap (λ k. after_mark (mark_of_event k) (carried mark (met arcs reached.path) false)) (sym kill) ∙ carried_more e lt reached.path reached.leads a)
 
   not_at_start : Available 0 → ⊥
-  not_at_start a = let f : false ≡ true = carried_there [] (a [] refl) in cc
+  not_at_start a = false≢true (carried_there [] (a [] refl))
 
   pub available_over : (e u w : ℕ) → e < length arcs → source arcs e ≡ u → target arcs e ≡ w → (event u ≡ Occurs → ⊥) → Available w → Available u
   available_over e u w lt from to other a = subst Available from (available_before e lt (λ o. other (sym (ap event from) ∙ o)) (subst Available (sym to) a))
@@ -135,7 +139,7 @@ module _ (arcs : List (ℕ × ℕ)) (Is : ℕ → Event → Type 0) (event : ℕ
   -- ---- wanted at the begin of an arc
 
   wanted_here : (v : ℕ) → event v ≡ Occurs → Wanted v
-  wanted_here v is = record { path = []; occurrence = v; leads = refl; occurs = (occurs v).1 is; unkilled = All-nil (λ m. ¬ placements.Kills Is m) }
+  wanted_here v is = record { path = []; occurrence = v; leads = refl; occurs = (are.occurs v).1 is; unkilled = All-nil (λ m. ¬ placements.Kills Is m) }
 
   wanted_before : (e : ℕ) → e < length arcs → (event (source arcs e) ≡ Kills → ⊥) → Wanted (target arcs e) → Wanted (source arcs e)
   wanted_before e lt other w = record {
@@ -144,7 +148,7 @@ module _ (arcs : List (ℕ × ℕ)) (Is : ℕ → Event → Type 0) (event : ℕ
     leads = (lt, refl, w.leads);
     occurs = w.occurs;
     unkilled =
-        All-cons (λ m. ¬ placements.Kills Is m) (at_point (source arcs e)) (on_edge e ∷ met arcs w.path) (λ k. other ((kills (source arcs e)).0 k))
+        All-cons (λ m. ¬ placements.Kills Is m) (at_point (source arcs e)) (on_edge e ∷ met arcs w.path) (λ k. other ((are.kills (source arcs e)).0 k))
         (All-cons (λ m. ¬ placements.Kills Is m) (on_edge e) (met arcs w.path) (λ k. k) w.unkilled);
   }
 

@@ -19,6 +19,7 @@ use Rattle.best_placement.specs.Reduction.{IsSplit}
 use Rattle.function_graphs.specs.Graphs.{AreEventsOf}
 use Rattle.function_graphs.proofs.Lying.{LieFrom, shape}
 use Rattle.reduction.specs.Reduced.{is_flagged, is_needed}
+use Rattle.reduced_flows.proofs.Along.{AreEvents}
 
 -- ---- the sets of nodes
 
@@ -64,11 +65,8 @@ module _ (f : Function) (p : Points) (t : Kept) (e : ℕ) (event : ℕ → Event
         (cases_lt v (length p.points))),
   )
 
-  pub occurs_is : (v : ℕ) → IsEventOf f p t e v Occurs ↔ (event v ≡ Occurs)
-  occurs_is v = event_is v Occurs (λ same. cc)
-
-  pub kills_is : (v : ℕ) → IsEventOf f p t e v Kills ↔ (event v ≡ Kills)
-  kills_is v = event_is v Kills (λ same. cc)
+  pub are_events : AreEvents (λ v k. IsEventOf f p t e v k) event
+  are_events = record { occurs = λ v. event_is v Occurs (λ same. cc); kills = λ v. event_is v Kills (λ same. cc) }
 
 -- ---- the flags at the blocks of the graph
 

@@ -19,7 +19,7 @@ use Rattle.local_sets.specs.declared.flags.Reach.{Reach}
 use Rattle.local_sets.specs.Reaching.{IsAvailable, IsWanted}
 use Rattle.best_placement.specs.Blocks as graphs
 use Rattle.best_placement.specs.Reduction.{Splits}
-use Rattle.best_placement.specs.Laws.{ExpressionGraph, IsBlockNetwork}
+use Rattle.best_placement.specs.Laws.{ExpressionGraph, IsExpressionGraph, IsBlockNetwork}
 use Rattle.best_placement.proofs.Lists.{each_both, each_weaker}
 use Rattle.function_graphs.specs.Graphs.{graph_of, IsIn}
 use Rattle.function_graphs.proofs.Suiting.{all_laid, functions_have_graphs}
@@ -29,7 +29,8 @@ use Rattle.reduced_flows.specs.Flows.{AreTold, IsSpread, ReducedFlowsAreMaximum}
 use Rattle.reduced_flows.proofs.Merged.{Beside, Merges, merges_from}
 use Rattle.reduced_flows.proofs.Named.{AreNamed, are_named}
 use Rattle.reduced_flows.proofs.Maximum.{is_maximum}
-use Rattle.reduced_flows.proofs.Flagged.{part, free, splits, needed_part, occurs_is, kills_is, AreFlagged, flagged_from}
+use Rattle.reduced_flows.proofs.Flagged.{part, free, splits, needed_part, are_events, AreFlagged, flagged_from}
+use Rattle.reduced_flows.proofs.Along.{AreEvents}
 use Rattle.reduced_flows.proofs.Splitting as splitting
 
 -- ---- the nodes
@@ -41,8 +42,14 @@ module _ (f : Function) (p : Points) (t : Kept) (e : ℕ) (c : FnCounts) (reache
   abbrev Is : ℕ → Event → Type 0
   Is v k = IsEventOf f p t e v k
 
+  graph : IsExpressionGraph g
+  graph = functions_have_graphs f p t e c reached event is
+
+  events : AreEvents Is event
+  events = are_events f p t e event is.events
+
   abbrev IsNode : ℕ → ℕ → Type 0
-  IsNode node point = splitting.IsTold g.arcs g.points g.blocks event g.edge_weight g.point_weight (functions_have_graphs f p t e c reached event is) Is (occurs_is f p t e event is.events) (kills_is f p t e event is.events) (part reach) (free reach) (splits reach) node point
+  IsNode node point = splitting.IsTold g graph Is events (part reach) (free reach) (splits reach) node point
 
   node_told : (v node point : ℕ) → node ≡ suc (suc v) → (is_flagged reach.available.items v ≡ true) ↔ IsAvailable g.arcs Is point → (is_flagged reach.wanted.items v ≡ true) ↔ IsWanted g.arcs Is point → IsNode node point
   node_told v node point at available wanted = record {
@@ -55,7 +62,7 @@ module _ (f : Function) (p : Points) (t : Kept) (e : ℕ) (c : FnCounts) (reache
   }
 
   abbrev AreNodes : graphs.Block → Type 0
-  AreNodes b = splitting.AreTold g.arcs g.points g.blocks event g.edge_weight g.point_weight (functions_have_graphs f p t e c reached event is) Is (occurs_is f p t e event is.events) (kills_is f p t e event is.events) (part reach) (free reach) (splits reach) b
+  AreNodes b = splitting.AreTold g graph Is events (part reach) (free reach) (splits reach) b
 
   all_told : AllByRecursion AreNodes g.blocks
   all_told =
@@ -76,8 +83,7 @@ module _ (f : Function) (p : Points) (t : Kept) (e : ℕ) (c : FnCounts) (reache
 
   pub all_sound : (net : Net) → IsBlockNetwork g net → AllByRecursion IsSound net.arcs.items
   all_sound net n = subst (λ arcs. AllByRecursion IsSound arcs) (sym n.arcs)
-      (splitting.network_sound g.arcs g.points g.blocks event g.edge_weight g.point_weight (functions_have_graphs f p t e c reached event is) Is (occurs_is f p t e event is.events) (kills_is f p t e event is.events) (part reach) (free reach) (splits reach)
-      (All-from_recursion AreNodes g.blocks all_told))
+      (splitting.network_sound g graph Is events (part reach) (free reach) (splits reach) (All-from_recursion AreNodes g.blocks all_told))
 
 -- ---- the arcs
 
@@ -85,11 +91,12 @@ module _ (net : Net) (reach : Reach) (reduced : Reduced) (is : IsReduced net rea
   pub nodes_named : AreNamed (is_needed reach) 0 net.nodes reduced.node_of.items
   nodes_named = subst (λ list. AreNamed (is_needed reach) 0 net.nodes list) (sym is.node_of) (are_named (is_needed reach) 0 net.nodes net.nodes (omega arith))
 
-  arcs_named : AreNamed (is_needed_arc reach net.arcs.items) 0 (length net.arcs.items) reduced.arc_of.items
+  -- each arc of the part is named once
+  pub arcs_named : AreNamed (is_needed_arc reach net.arcs.items) 0 (length net.arcs.items) reduced.arc_of.items
   arcs_named = subst (λ list. AreNamed (is_needed_arc reach net.arcs.items) 0 (length net.arcs.items) list) (sym is.arc_of) (are_named (is_needed_arc reach net.arcs.items) 0 (length net.arcs.items) (length net.arcs.items) (omega arith))
 
   unneeded : (k : ℕ) → is_needed_arc reach net.arcs.items k ≡ false → ¬ Contains reduced.arc_of.items k
-  unneeded k isnt at =
+  unneeded k fails at =
       let there = slice_get-get_or reduced.arc_of.items at.0 k at.1 ∙ ap (λ x. Some x) at.2 in
       let passes : is_needed_arc reach net.arcs.items k ≡ true = (arcs_named.pass at.0 k there).2 in
       cc
@@ -109,12 +116,21 @@ module _ (net : Net) (reach : Reach) (reduced : Reduced) (is : IsReduced net rea
 
   pub merged : (small flow : Flow) → IsMaximum reduced.net small → IsSpread (length net.arcs.items) reduced.arc_of.items small.amounts.items flow.amounts.items → Merges reduced.node_of.items (joins_needed reach) (loads net flow) (loads reduced.net small)
   merged small flow max spread =
-      merges_from reduced.node_of.items (joins_needed reach) net.arcs.items flow.amounts.items (Stands net.arcs.items reduced.node_of.items) beside (λ k isnt. spread.others k (unneeded k isnt)) 0 net.arcs.items flow.amounts.items spread.len
+      merges_from reduced.node_of.items (joins_needed reach) net.arcs.items flow.amounts.items (Stands net.arcs.items reduced.node_of.items) beside (λ k fails. spread.others k (unneeded k fails)) 0 net.arcs.items flow.amounts.items spread.len
       (λ i. let none : 0 + i ≡ i = omega arith in ap (slice_get net.arcs.items) none) (λ i. let none : 0 + i ≡ i = omega arith in ap (λ j. get_or flow.amounts.items j 0) none)
       reduced.net.arcs.items small.amounts.items (subst (λ list. AllZip (Stands net.arcs.items reduced.node_of.items) list reduced.net.arcs.items) is.arc_of is.arcs) max.within.len
       (subst (λ list. (i : ℕ) → i < length list → get_or flow.amounts.items (get_or list i 0) 0 ≡ get_or small.amounts.items i 0) is.arc_of spread.named)
 
 pub reduced_flows_are_maximum : ReducedFlowsAreMaximum
 reduced_flows_are_maximum f p t e c reached event net reach reduced small flow is n told r max spread =
-    is_maximum net reduced.net flow small (is_needed reach) (part reach) (free reach) (splits reach) (all_sound f p t e c reached event is reach told net n) (refl, refl) (needed_part reach)
-    reduced.node_of.items r.nodes (nodes_named net reach reduced r) (front net reach reduced r (omega (arith, n.nodes))) spread.len (merged net reach reduced r small flow max spread) max
+    is_maximum net reduced.net flow small (is_needed reach) (part reach) (free reach) reduced.node_of.items (record {
+      split = splits reach;
+      sound = all_sound f p t e c reached event is reach told net n;
+      ends = (refl, refl);
+      others = needed_part reach;
+      count = r.nodes;
+      named = nodes_named net reach reduced r;
+      front = front net reach reduced r (omega (arith, n.nodes));
+      len = spread.len;
+      merged = merged net reach reduced r small flow max spread;
+    }) max
