@@ -25,7 +25,7 @@ use Rattle.function_graphs.specs.Graphs.{graph_of, IsIn}
 use Rattle.function_graphs.proofs.Suiting.{all_laid, functions_have_graphs}
 use Rattle.reduction.specs.declared.reducing.Reduced.{Reduced}
 use Rattle.reduction.specs.Reduced.{IsReduced, Stands, is_flagged, is_needed, is_needed_arc, joins_needed}
-use Rattle.reduced_flows.specs.Flows.{AreTold, IsSpread, ReducedFlowsAreMaximum}
+use Rattle.reduced_flows.specs.Flows.{IsReachOf, IsSpread, ReducedFlowsAreMaximum}
 use Rattle.reduced_flows.proofs.Merged.{Beside, Merges, merges_from}
 use Rattle.reduced_flows.proofs.Named.{AreNamed, are_named}
 use Rattle.reduced_flows.proofs.Maximum.{is_maximum}
@@ -35,7 +35,7 @@ use Rattle.reduced_flows.proofs.Splitting as splitting
 
 -- ---- the nodes
 
-module _ (f : Function) (p : Points) (t : Kept) (e : ℕ) (c : FnCounts) (reached : ℕ → Bool) (event : ℕ → Event) (is : IsIn f p t e reached event) (reach : Reach) (told : AreTold f p t e reach) where
+module _ (f : Function) (p : Points) (t : Kept) (e : ℕ) (c : FnCounts) (reached : ℕ → Bool) (event : ℕ → Event) (is : IsIn f p t e reached event) (reach : Reach) (told : IsReachOf f p t e reach) where
   abbrev g : ExpressionGraph
   g = graph_of f p c reached event
 

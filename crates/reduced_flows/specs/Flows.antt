@@ -19,7 +19,7 @@ use Rattle.reduction.specs.declared.reducing.Reduced.{Reduced}
 use Rattle.reduction.specs.Reduced.{IsReduced}
 
 -- the flags tell at which ends of the reached blocks the expression is available, and at which it is wanted
-pub record AreTold (f : Function) (p : Points) (t : Kept) (e : ℕ) (reach : Reach) : Type 0 where
+pub record IsReachOf (f : Function) (p : Points) (t : Kept) (e : ℕ) (reach : Reach) : Type 0 where
   pub available : AllZip (Tells p.points (IsAvailable (arcs_of p.edges) (IsEventOf f p t e))) (ends_of p.blocks) reach.available.items
   pub wanted : AllZip (Tells p.points (IsWanted (arcs_of p.edges) (IsEventOf f p t e))) (ends_of p.blocks) reach.wanted.items
 
@@ -32,5 +32,5 @@ pub record IsSpread (count : ℕ) (arc_of : List ℕ) (part whole : List ℕ) : 
 -- a maximum flow of the needed part, with nothing on the other arcs, is one of the whole
 abbrev pub ReducedFlowsAreMaximum : Type 0
 ReducedFlowsAreMaximum = (f : Function) (p : Points) (t : Kept) (e : ℕ) (c : FnCounts) (reached : ℕ → Bool) (event : ℕ → Event) (net : Net) (reach : Reach) (reduced : Reduced) (small flow : Flow) → IsIn f p t e reached event
-    → IsBlockNetwork (graph_of f p c reached event) net → AreTold f p t e reach → IsReduced net reach reduced → IsMaximum reduced.net small
+    → IsBlockNetwork (graph_of f p c reached event) net → IsReachOf f p t e reach → IsReduced net reach reduced → IsMaximum reduced.net small
     → IsSpread (length net.arcs.items) reduced.arc_of.items small.amounts.items flow.amounts.items → IsMaximum net flow
