@@ -1,2 +1,3 @@
 mod SameNets
 mod Solving
+mod Amounts

@@ -9,17 +9,17 @@ pub returns-clause-solved : goal.returns-clause-solved
 returns-clause-solved g c reached event net is n =
     let s : Solved = record { placement = c.in_ok-placement.placement; flow = c.in_ok-flow.flow; cut = c.in_ok-cut.cut } in
     let f = c.args.function.now in
-    let full = c.in_ok-full.full.net in
-    let network = c.in_ok-full.ensures.network reached event is in
+    let full = c.in_ok-nets.nets.full.net in
+    let network = c.in_ok-nets.ensures.network reached event is in
     let read = subst (λ (l : List Bool). IsReadOffOn (graph_of f c.args.points.now c.args.counts.now reached event) (λ v. get_or l v false) s.placement) c.deref.ensures.value (c.in_ok-placement.ensures.read c.args.counts.now reached event is) in
     on_each f c.args.points.now c.args.table.now c.args.e c.args.counts.now reached event is s full net network n
-    (shown f c.args.points.now c.args.table.now c.args.e c.args.counts.now reached event is s full network c.in_ok-full.ensures.valid c.in_ok-flow.ensures.maximum
+    (shown f c.args.points.now c.args.table.now c.args.e c.args.counts.now reached event is s full network c.in_ok-nets.ensures.valid c.in_ok-flow.ensures.maximum
     c.in_ok-cut.ensures.side c.in_ok-cut.ensures.ranks c.in_ok-cut.ensures.least c.in_ok-cut.ensures.latest (c.in_ok-placement.ensures.placed c.args.counts.now reached event is) read)
 
 pub returns-clause-best : goal.returns-clause-best
 returns-clause-best g c =
     let f = c.args.function.now in
     let has : HasGraph f c.args.points.now c.args.table.now c.args.e = some_graph f c.args.points.now c.args.table.now c.args.e c.requires.defined c.requires.points c.requires.table c.requires.expression in
-    let n = c.in_ok-full.ensures.network has.reached has.event has.is in
-    best f c.args.points.now c.args.table.now c.args.e c.args.counts.now has.reached has.event has.is _ c.in_ok-full.full.net n
-    (returns-clause-solved g c has.reached has.event c.in_ok-full.full.net has.is n)
+    let n = c.in_ok-nets.ensures.network has.reached has.event has.is in
+    best f c.args.points.now c.args.table.now c.args.e c.args.counts.now has.reached has.event has.is _ c.in_ok-nets.nets.full.net n
+    (returns-clause-solved g c has.reached has.event c.in_ok-nets.nets.full.net has.is n)
