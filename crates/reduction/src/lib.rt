@@ -1,8 +1,8 @@
-//! What is needed of the block network of an expression.
+//! The block network of an expression, and what is needed of it.
 #![tactic(auto)]
 
 mod building;
 mod reducing;
 
-pub use building::BlockNet;
+pub use building::{BlockNet, network};
 pub use reducing::{Reduced, reduce};
