@@ -2,13 +2,14 @@
 use Rattle.std.proofs.Common.{◌≡◌, ◌<◌, ◌≤◌, ◌+◌, ◌^◌, ℕ, zero, suc, List, [], ◌∷◌, ◌++◌, Some, All, length, take, drop, get_or, slice_get, refl, sym, ap, ◌∙◌, subst, arith, inl, inr}
 use Rattle.std.specs.Option.{option_map_or}
 use Rattle.std.proofs.Math.Seq.{get_or-append_seam}
-use Rattle.std.proofs.lemmas.List.{take_more, take_all, get_or_append_left, get_or_default, length_push}
+use Rattle.std.proofs.lemmas.List.{take_more, get_or_append_left, get_or_default, get_or-drop, get_or-take, length_push, length-drop, length-take-le}
 use Rattle.std.proofs.lemmas.Bool.{cases_lt}
-use Rattle.std.proofs.lemmas.Option.{slice_get-get_or}
+use Rattle.std.proofs.lemmas.Option.{get_or_from_slice_get, slice_get-get_or, slice_get_within}
 use Rattle.ir_types.specs.declared.syntax.Block.{Block}
 use Rattle.ir_types.specs.declared.syntax.Function.{Function}
 use Rattle.flow_graph.specs.Slots.{slots_of, slots_from}
 use Rattle.profile.specs.declared.counts.FnCounts.{FnCounts}
+use Rattle.profile.specs.Counts.{HasSlots}
 use Rattle.profile.specs.Text.{width}
 use Rattle.profile.proofs.Widths.{slots_cons, slots_push}
 use Rattle.block_counts.specs.Counts.{targets_of, slots_before, slot_counts}
@@ -63,3 +64,15 @@ pub own_counts : (f : Function) (c : FnCounts) (b begin count : ℕ) (x : Block)
 own_counts f c b begin count x slots rest own inside read at wide s r o =
     let there : slice_get f.blocks b ≡ Some x = slice_get-get_or f.blocks b x inside ∙ ap (λ y. Some y) (sym read) in
     o ∙ ap (λ n. take n rest) (wide ∙ ap length (sym (targets_there f b x there))) ∙ ap (take (length (targets_of f b))) (r ∙ ap (drop begin) s ∙ ap (λ n. drop n c.slots) at)
+
+module _ (f : Function) (c : FnCounts) (has : HasSlots f c) (b : ℕ) (x : Block) (there : slice_get f.blocks b ≡ Some x) where
+  -- each slot of a block has its count
+  pub counts_len : length (slot_counts f c b) ≡ length (targets_of f b)
+  counts_len =
+      let inside = slice_get_within f.blocks b x there in
+      let fits = width_fits f.blocks b x inside (sym (get_or_from_slice_get f.blocks b x x there)) in
+      let wide = ap length (targets_there f b x there) in
+      length-take-le (length (targets_of f b)) (drop (slots_before f b) c.slots) (omega (arith, fits, wide, has, length-drop (slots_before f b) c.slots))
+
+  pub count_at : (k : ℕ) → k < length (targets_of f b) → get_or (slot_counts f c b) k 0 ≡ get_or c.slots (slots_before f b + k) 0
+  count_at k lt = get_or-take (length (targets_of f b)) (drop (slots_before f b) c.slots) k 0 lt ∙ get_or-drop (slots_before f b) c.slots k 0

@@ -1,1 +1,2 @@
 pub mod ReducedLemmas
+pub mod Along

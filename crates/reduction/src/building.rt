@@ -5,11 +5,16 @@ ghost use Rattle.profile.specs.Counts.{HasSlots, IsUnreachedZero, total};
 ghost use Rattle.flow_net.specs.Network.{IsValid};
 ghost use Rattle.reduction.specs.Networks.{AreSetsOf, IsFullNetwork};
 
-use flow_net::Net;
+use crate::block_arcs::push_block;
+use block_counts::{block_counts, slot_counts};
+use block_places::places;
+use flow_net::{Arc, Net};
+use function_graphs::{events_exist, networks_are_valid, sets_agree};
 use ir_types::syntax::Function;
 use local_sets::BlockSets;
 use mc_num::NoMemory;
-use point_graph::Points;
+use placement::weight;
+use point_graph::{Points, block_at};
 use profile::FnCounts;
 use std::alloc::Global;
 
@@ -45,5 +50,29 @@ pub fn network(
     ensures valid { IfOk result (λ full. IsValid full.net) }
     ensures few { IfOk result (λ full. length full.net.arcs.items < 2 ^ 32) }
 {
-    Err(NoMemory)
+    events_exist();
+    sets_agree();
+    networks_are_valid();
+    let blocks = points.blocks.as_slice();
+    let places = places(alloc, blocks, function.blocks.len())?;
+    let by_block = block_counts(alloc, function, counts)?;
+    let mut arcs = Vec::new(alloc);
+    arcs.push(Arc {
+        from: 0,
+        to: 2,
+        cap: weight(counts.entry),
+    })?;
+    let mut constant = 0;
+    for (place, number) in blocks.iter().enumerate() {
+        let block = block_at(function, *number);
+        let slots = slot_counts(function, counts, &by_block, *number);
+        let weight = weight(by_block.entered[*number as usize]);
+        push_block(&mut arcs, place as u32, sets[place], weight, &block.term, slots, &places)?;
+        constant += weight * u128::from(sets[place].forced);
+    }
+    let net = Net {
+        nodes: 2 + 2 * blocks.len() as u32,
+        arcs,
+    };
+    Ok(BlockNet { net, constant })
 }
