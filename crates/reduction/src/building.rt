@@ -1,5 +1,5 @@
 //! The network of the blocks of a function.
-ghost use Rattle.std.specs.Prelude.{◌<◌, ◌^◌, IfOk, length};
+ghost use Rattle.std.specs.Prelude.{◌≡◌, ◌<◌, ◌^◌, IfOk, Some, length, slice_get};
 ghost use Rattle.point_graph.specs.Numbers.{ArePoints};
 ghost use Rattle.profile.specs.Counts.{HasSlots, IsUnreachedZero, total};
 ghost use Rattle.flow_net.specs.Network.{IsValid};
@@ -28,6 +28,14 @@ pub struct BlockNet {
     pub constant: u128,
 }
 
+/// The sets of the block at this place.
+fn sets_at(sets: &[BlockSets], place: usize) -> BlockSets
+    requires { place < length sets.now }
+    ensures { slice_get sets.now place ≡ Some result }
+{
+    sets[place]
+}
+
 /// The block network of an expression, by the sets of the reached blocks in order and the counts of the function.
 ///
 /// The entry arc comes first, and then for each reached block its first event's arc, its last event's arc and its slots. The
@@ -54,7 +62,8 @@ pub fn network(
     sets_agree();
     networks_are_valid();
     let blocks = points.blocks.as_slice();
-    let places = places(alloc, blocks, function.blocks.len())?;
+    let listed_places = places(alloc, blocks, function.blocks.len())?;
+    let places = listed_places.as_slice();
     let by_block = block_counts(alloc, function, counts)?;
     let mut arcs = Vec::new(alloc);
     arcs.push(Arc {
@@ -67,8 +76,9 @@ pub fn network(
         let block = block_at(function, *number);
         let slots = slot_counts(function, counts, &by_block, *number);
         let weight = weight(by_block.entered[*number as usize]);
-        push_block(&mut arcs, place as u32, sets[place], weight, &block.term, slots, &places)?;
-        constant += weight * u128::from(sets[place].forced);
+        let of_block = sets_at(sets, place);
+        push_block(&mut arcs, place as u32, of_block, weight, &block.term, slots, places)?;
+        constant += weight * u128::from(of_block.forced);
     }
     let net = Net {
         nodes: 2 + 2 * blocks.len() as u32,
