@@ -38,11 +38,7 @@ fn add_slots(term: &Terminator, counts: &[u64], entered: &mut [u64])
 }
 
 /// How often each block was entered.
-fn entered(
-    alloc: Global,
-    function: &Function<'_>,
-    counts: &FnCounts,
-) -> Result<Vec<u64>, NoMemory>
+fn entered(alloc: Global, function: &Function<'_>, counts: &FnCounts) -> Result<Vec<u64>, NoMemory>
     requires rules { KeepsRules function.now }
     requires defined { 0 < length function.now.blocks }
     requires slots { HasSlots function.now counts.now }

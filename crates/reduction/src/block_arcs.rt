@@ -29,12 +29,7 @@ fn terminator(place: u32) -> u32
 }
 
 /// Adds the arc of a block's first event: to the sink before an occurrence, and none before a kill.
-fn push_first(
-    arcs: &mut Vec<Arc>,
-    event: Event,
-    place: u32,
-    weight: u128,
-) -> Result<(), NoMemory>
+fn push_first(arcs: &mut Vec<Arc>, event: Event, place: u32, weight: u128) -> Result<(), NoMemory>
     requires { terminator_node place < 2 ^ 32 }
     ensures { OnOk result (arcs.new.items ≡ arcs.old.items ++ first_arcs event place weight) }
 {
@@ -52,12 +47,7 @@ fn push_first(
 }
 
 /// Adds the arc of a block's last event: from the source behind a kill.
-fn push_last(
-    arcs: &mut Vec<Arc>,
-    event: Event,
-    place: u32,
-    weight: u128,
-) -> Result<(), NoMemory>
+fn push_last(arcs: &mut Vec<Arc>, event: Event, place: u32, weight: u128) -> Result<(), NoMemory>
     requires { terminator_node place < 2 ^ 32 }
     ensures { OnOk result (arcs.new.items ≡ arcs.old.items ++ last_arcs event place weight) }
 {

@@ -77,7 +77,15 @@ pub fn network(
         let slots = slot_counts(function, counts, &by_block, *number);
         let weight = weight(by_block.entered[*number as usize]);
         let of_block = sets_at(sets, place);
-        push_block(&mut arcs, place as u32, of_block, weight, &block.term, slots, places)?;
+        push_block(
+            &mut arcs,
+            place as u32,
+            of_block,
+            weight,
+            &block.term,
+            slots,
+            places,
+        )?;
         constant += weight * u128::from(of_block.forced);
     }
     let net = Net {
