@@ -11,7 +11,8 @@ use Rattle.best_placement.specs.Bits.{is_occurrence, positions, none, kept_along
 use Rattle.best_placement.specs.Shapes.{Shape, steps_from, slots_from, block_from, blocks_from, points_from, next_point, next_edge}
 use Rattle.best_placement.specs.Blocks.{Block}
 use Rattle.function_graphs.proofs.Parts.{map_at}
-use Rattle.read_off.specs.Bits.{targets_by, Adds, ReadsSteps, ReadsSlots, ReadsBlock, Holds, ReadsBlocks, edges_from}
+use Rattle.block_places.specs.Places.{edges_from}
+use Rattle.read_off.specs.Bits.{targets_by, Adds, ReadsSteps, ReadsSlots, ReadsBlock, Holds, ReadsBlocks}
 use Rattle.read_off.specs.declared.bits.SetBits.{SetBits}
 
 pub positions_append : (n : ℕ) (xs ys : List Bool) → positions n (xs ++ ys) ≡ positions n xs ++ positions (n + length xs) ys

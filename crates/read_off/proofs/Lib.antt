@@ -1,4 +1,3 @@
 mod Adding
-mod Filling
 mod Laid
 mod Placing

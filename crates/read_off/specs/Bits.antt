@@ -5,6 +5,7 @@ use Rattle.expressions.specs.declared.syntax.Event.TheVariants.{Passes}
 use Rattle.best_placement.specs.BlockNetwork.{head_node, last_event}
 use Rattle.best_placement.specs.Shapes.{Shape, steps_from, block_from, next_point, next_edge, blocks_from, points_from}
 use Rattle.best_placement.specs.Bits.{positions, kept_along, none, inserted_in, kept_in, bits_joined}
+use Rattle.block_places.specs.Places.{edges_from}
 use Rattle.read_off.specs.declared.bits.SetBits.{SetBits}
 
 -- the event of each point; past the points nothing is done
@@ -46,11 +47,6 @@ pub record ReadsBlock (event : ℕ → Event) (nodes : ℕ → Bool) (place : �
 pub record Holds (bits : List Bool) (b : SetBits) : Type 0 where
   pub numbers : b.numbers.items ≡ positions 0 bits
   pub next : b.next ≡ length bits
-
--- the number of the edge after these shapes
-abbrev pub edges_from : ℕ → List Shape → ℕ
-edges_from edge [] = edge
-edges_from edge (s ∷ shapes) = edges_from (next_edge edge s) shapes
 
 -- the blocks of these shapes were read
 pub record ReadsBlocks (event : ℕ → Event) (nodes : ℕ → Bool) (shapes : List Shape) (inserted kept : SetBits) : Type 0 where

@@ -2,7 +2,6 @@
 #![tactic(auto)]
 
 mod bits;
-mod places;
 mod reading;
 mod rules;
 

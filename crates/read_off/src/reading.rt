@@ -12,8 +12,8 @@ ghost use Rattle.function_graphs.specs.Graphs.{IsIn, graph_of};
 ghost use Rattle.read_off.specs.Bits.{event_at, shape_with, targets_by, ReadsBlock, ReadsSlots, ReadsSteps};
 
 use crate::bits::SetBits;
-use crate::places::places;
 use crate::rules::{event_after, is_exit_inserted, is_kept, is_slot_inserted};
+use block_places::places;
 use expressions::{Event, Table, event};
 use flow_graph::{slot_count, target};
 use function_graphs::functions_have_graphs;

@@ -1,1 +1,5 @@
 pub mod ReducedLemmas
+pub mod Along
+pub mod Pushing
+pub mod Bounds
+pub mod Growing

@@ -1,2 +1,3 @@
 pub mod Reduced
 pub mod Networks
+pub mod BlockArcs

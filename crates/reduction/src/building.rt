@@ -1,15 +1,20 @@
 //! The network of the blocks of a function.
-ghost use Rattle.std.specs.Prelude.{◌<◌, ◌^◌, IfOk, length};
+ghost use Rattle.std.specs.Prelude.{◌≡◌, ◌<◌, ◌^◌, IfOk, Some, length, slice_get};
 ghost use Rattle.point_graph.specs.Numbers.{ArePoints};
 ghost use Rattle.profile.specs.Counts.{HasSlots, IsUnreachedZero, total};
 ghost use Rattle.flow_net.specs.Network.{IsValid};
 ghost use Rattle.reduction.specs.Networks.{AreSetsOf, IsFullNetwork};
 
-use flow_net::Net;
+use crate::block_arcs::push_block;
+use block_counts::{block_counts, slot_counts};
+use block_places::places;
+use flow_net::{Arc, Net};
+use function_graphs::{events_exist, networks_are_valid, sets_agree};
 use ir_types::syntax::Function;
 use local_sets::BlockSets;
 use mc_num::NoMemory;
-use point_graph::Points;
+use placement::weight;
+use point_graph::{Points, block_at};
 use profile::FnCounts;
 use std::alloc::Global;
 
@@ -21,6 +26,14 @@ pub struct BlockNet {
     pub net: Net,
     /// The weights of the occurrences that have a kill before them in their block.
     pub constant: u128,
+}
+
+/// The sets of the block at this place.
+fn sets_at(sets: &[BlockSets], place: usize) -> BlockSets
+    requires { place < length sets.now }
+    ensures { slice_get sets.now place ≡ Some result }
+{
+    sets[place]
 }
 
 /// The block network of an expression, by the sets of the reached blocks in order and the counts of the function.
@@ -45,5 +58,39 @@ pub fn network(
     ensures valid { IfOk result (λ full. IsValid full.net) }
     ensures few { IfOk result (λ full. length full.net.arcs.items < 2 ^ 32) }
 {
-    Err(NoMemory)
+    events_exist();
+    sets_agree();
+    networks_are_valid();
+    let blocks = points.blocks.as_slice();
+    let listed_places = places(alloc, blocks, function.blocks.len())?;
+    let places = listed_places.as_slice();
+    let by_block = block_counts(alloc, function, counts)?;
+    let mut arcs = Vec::new(alloc);
+    arcs.push(Arc {
+        from: 0,
+        to: 2,
+        cap: weight(counts.entry),
+    })?;
+    let mut constant = 0;
+    for (place, number) in blocks.iter().enumerate() {
+        let block = block_at(function, *number);
+        let slots = slot_counts(function, counts, &by_block, *number);
+        let weight = weight(by_block.entered[*number as usize]);
+        let of_block = sets_at(sets, place);
+        push_block(
+            &mut arcs,
+            place as u32,
+            of_block,
+            weight,
+            &block.term,
+            slots,
+            places,
+        )?;
+        constant += weight * u128::from(of_block.forced);
+    }
+    let net = Net {
+        nodes: 2 + 2 * blocks.len() as u32,
+        arcs,
+    };
+    Ok(BlockNet { net, constant })
 }

@@ -1,6 +1,7 @@
 //! The block network of an expression, and what is needed of it.
 #![tactic(auto)]
 
+mod block_arcs;
 mod building;
 mod reducing;
 

@@ -5,10 +5,10 @@ use Rattle.point_graph.specs.Numbers.{KeepsRules}
 use Rattle.placement.specs.Marking.{AreEvents}
 use Rattle.profile.specs.declared.counts.FnCounts.{FnCounts}
 use Rattle.function_graphs.proofs.Lying.{shape}
-use Rattle.read_off.specs.Bits.{event_at, ReadsBlocks}
-use Rattle.read_off.specs.Places.{ArePlaces}
+use Rattle.block_places.proofs.Standing.{block_there, targets_fit, placed_as, blocks_within, blocks_few}
+use Rattle.read_off.specs.Bits.{event_at}
 use Rattle.read_off.proofs.Adding.{reads_no_blocks}
-use Rattle.read_off.proofs.Laid.{block_there, points_room, edges_room, targets_fit, next_block, placed_as, all_read, blocks_within, blocks_few}
+use Rattle.read_off.proofs.Laid.{points_room, edges_room, next_block, all_read}
 use Rattle.read_off.proofs.Placing.{read_whole}
 use Rattle.read_off.proofs.reading.read_off.Goals as goal
 

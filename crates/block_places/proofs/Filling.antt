@@ -4,7 +4,7 @@ use Rattle.std.proofs.lemmas.Bool.{cases_eq}
 use Rattle.std.proofs.lemmas.Bool.Decides.{nat_tests}
 use Rattle.std.proofs.lemmas.List.{drop_more, drop_all, get_or-replicate, length-replicate, get_or-set_same, get_or-set_other, length-set}
 use Rattle.function_graphs.specs.Graphs.{place_in}
-use Rattle.read_off.specs.Places.{ArePlaces}
+use Rattle.block_places.specs.Places.{ArePlaces}
 
 -- the places of the blocks from place i on
 pub record ArePlacesFrom (blocks : List ℕ) (count i : ℕ) (places : List ℕ) : Type 0 where

@@ -1,6 +1,8 @@
 //! The places of blocks among the reached ones.
+#![tactic(auto)]
+
 ghost use Rattle.std.specs.Prelude.{◌<◌, ◌^◌, All, IfOk, length};
-ghost use Rattle.read_off.specs.Places.{ArePlaces};
+ghost use Rattle.block_places.specs.Places.{ArePlaces};
 
 use mc_num::NoMemory;
 use std::alloc::Global;
