@@ -1,8 +1,8 @@
 -- What enters blocks, while the counts of slots are added block by block.
-use Rattle.std.proofs.Common.{◌≡◌, ◌<◌, ◌≤◌, ◌+◌, ◌^◌, ◌==◌, cond, ℕ, zero, Bool, List, [], ◌++◌, Some, All, length, take, drop, get_or, set, replicate, slice_get, sum, refl, sym, ap, ◌∙◌, subst, arith, ⊎_elim}
+use Rattle.std.proofs.Common.{◌≡◌, ◌<◌, ◌≤◌, ◌+◌, ◌^◌, ◌==◌, cond, ℕ, zero, Bool, List, ◌++◌, Some, All, length, take, drop, get_or, set, replicate, slice_get, sum, refl, sym, ap, ◌∙◌, subst, arith, ⊎_elim}
 use Rattle.std.proofs.lemmas.Bool.{cases_eq}
 use Rattle.std.proofs.lemmas.Bool.Decides.{nat_tests}
-use Rattle.std.proofs.lemmas.List.{append-nil, drop_all, take_all, get_or-replicate, length-replicate, get_or-set_same, get_or-set_other, length-set, get_or_default}
+use Rattle.std.proofs.lemmas.List.{append-nil, drop_all, take_all, get_or-replicate, length-replicate, get_or-set_same, get_or-set_other, length-set}
 use Rattle.std.proofs.lemmas.List.Elements.{All-get_or, All-weaker}
 use Rattle.std.proofs.lemmas.List.Sums.{sum_by-take-drop}
 use Rattle.std.proofs.lemmas.Option.{get_or_from_slice_get, slice_get_within}
@@ -15,7 +15,7 @@ use Rattle.profile.specs.declared.counts.FnCounts.{FnCounts}
 use Rattle.profile.specs.Counts.{HasSlots, IsUnreachedZero, entering, total}
 use Rattle.profile.specs.Sums.{into}
 use Rattle.profile.specs.Text.{width}
-use Rattle.profile.proofs.Summed.{into_more, into_le, sum_left, some_of}
+use Rattle.profile.proofs.Summed.{into_more, sum_left, some_of}
 use Rattle.profile.proofs.Balancing.{CountingBlocks, counting_start, counting_blocks, counting_end, front_fits}
 
 -- what was written to all elements of a vector

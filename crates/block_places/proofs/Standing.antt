@@ -10,7 +10,6 @@ use Rattle.ir_types.specs.declared.syntax.Function.{Function}
 use Rattle.flow_graph.specs.Slots.{slots_of}
 use Rattle.point_graph.specs.Numbers.{KeepsRules, ArePoints}
 use Rattle.point_graph.specs.declared.graph.Points.{Points}
-use Rattle.point_numbers.proofs.Listing.{IsReachedBlocks}
 use Rattle.point_numbers.proofs.Reached.{reached_blocks}
 use Rattle.profile.specs.declared.counts.FnCounts.{FnCounts}
 use Rattle.best_placement.specs.BlockNetwork.{head_node}

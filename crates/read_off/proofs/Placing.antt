@@ -1,5 +1,5 @@
 -- The lists that were read are the placement.
-use Rattle.std.proofs.Common.{◌≡◌, ℕ, zero, suc, ◌+◌, ◌<◌, ◌≤◌, Bool, false, List, [], ◌∷◌, length, map, get_or, sym, ap, ◌∙◌, subst, arith, ⊎_elim}
+use Rattle.std.proofs.Common.{◌≡◌, ℕ, ◌<◌, ◌≤◌, Bool, false, List, ◌∷◌, length, map, get_or, sym, ◌∙◌, subst, arith, ⊎_elim}
 use Rattle.std.proofs.lemmas.Bool.{cases_lt}
 use Rattle.std.proofs.lemmas.List.{get_or_default}
 use Rattle.std.proofs.Math.ListN.{get_or-eq_default}
@@ -13,8 +13,7 @@ use Rattle.profile.specs.declared.counts.FnCounts.{FnCounts}
 use Rattle.placement.specs.declared.placements.Placement.{Placement}
 use Rattle.placement.specs.Marking.{AreEvents}
 use Rattle.placement.proofs.EventLemmas.{one_event}
-use Rattle.best_placement.specs.Bits.{positions, inserted_in, kept_in, bits_joined}
-use Rattle.best_placement.specs.BlockNetwork.{head_node}
+use Rattle.best_placement.specs.Bits.{positions, kept_in, bits_joined}
 use Rattle.best_placement.specs.Laws.{ExpressionGraph, IsPlacement, IsReadOffOn}
 use Rattle.best_placement.proofs.Positions.{lists_placed, lists_read}
 use Rattle.function_graphs.specs.Graphs.{AreEventsOf, IsIn, graph_of, FunctionsHaveGraphs}

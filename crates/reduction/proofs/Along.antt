@@ -1,6 +1,6 @@
 -- The arcs of the reached blocks of a graph are those by their sets and counts.
-use Rattle.std.proofs.Common.{◌≡◌, ◌<◌, ◌≤◌, ◌+◌, ◌*◌, ◌^◌, ℕ, zero, suc, Bool, List, [], ◌∷◌, ◌++◌, Some, length, map, get_or, slice_get, sum_by, refl, sym, ap, ◌∙◌, subst, arith}
-use Rattle.std.specs.List.{AllZip, zip}
+use Rattle.std.proofs.Common.{◌≡◌, ◌<◌, ◌+◌, ◌*◌, ℕ, suc, Bool, List, [], ◌∷◌, ◌++◌, Some, length, map, get_or, slice_get, refl, sym, ap, ◌∙◌, arith}
+use Rattle.std.specs.List.{AllZip}
 use Rattle.std.specs.Option.{option_map_or}
 use Rattle.std.proofs.lemmas.List.{length-map}
 use Rattle.std.proofs.lemmas.List.Sums.{sum_by-cons}
@@ -25,9 +25,10 @@ use Rattle.function_graphs.specs.Graphs.{graph_of, place_in, shape_of, IsIn}
 use Rattle.function_graphs.specs.Sets.{HasSets}
 use Rattle.function_graphs.proofs.Arcs.{edge_at}
 use Rattle.function_graphs.proofs.Lying.{LiesAt, LieFrom, shape}
-use Rattle.block_counts.specs.Counts.{slot_counts, slots_before, targets_of}
+use Rattle.block_counts.specs.Counts.{slot_counts, targets_of}
 use Rattle.block_counts.proofs.Slots.{count_at, counts_len, targets_there}
-use Rattle.reduction.specs.BlockArcs.{arcs_along, arcs_at, block_arcs, counted_arcs, paid_along}
+use Rattle.reduction.specs.BlockArcs.{counted_arcs}
+use Rattle.reduction.proofs.BySets.{arcs_along, arcs_at, paid_along}
 
 abbrev arc : ℕ → ℕ → ℕ → Arc
 arc index t cap = record { from = terminator_node index; to = head_node t; cap = cap }

@@ -1,7 +1,7 @@
 -- How many arcs a block network has, and how many forced occurrences.
-use Rattle.std.proofs.Common.{◌≡◌, ◌<◌, ◌≤◌, ◌+◌, ◌*◌, ◌^◌, ℕ, zero, suc, Bool, true, false, cond, List, [], ◌∷◌, ◌++◌, Some, length, map, filter, slice_get, sum_by, refl, sym, ap, ◌∙◌, arith}
+use Rattle.std.proofs.Common.{◌≡◌, ◌≤◌, ◌+◌, ◌*◌, ℕ, suc, Bool, true, false, cond, List, [], ◌∷◌, ◌++◌, Some, length, map, filter, slice_get, sum_by, ap, arith}
 use Rattle.std.specs.Prelude.{flat_map}
-use Rattle.std.specs.List.{AllZip, range_with_len, zip}
+use Rattle.std.specs.List.{AllZip, range_with_len}
 use Rattle.std.specs.Option.{option_map_or}
 use Rattle.std.proofs.lemmas.List.{length-append, length-map}
 use Rattle.std.proofs.lemmas.List.FromFn.{length-map-range_with_len}
@@ -11,22 +11,21 @@ use Rattle.ir_types.specs.declared.syntax.Function.{Function}
 use Rattle.flow_graph.specs.Slots.{slots_of}
 use Rattle.point_graph.specs.Graph.{Inside, Slot}
 use Rattle.point_graph.specs.Numbers.{block_edges, block_points, of_block}
-use Rattle.point_graph.specs.declared.graph.Point.TheVariants.{Instr, Term}
 use Rattle.expressions.specs.declared.syntax.Event.{Event}
 use Rattle.expressions.specs.declared.syntax.Event.TheVariants.{Occurs, Kills, Bars, Passes}
 use Rattle.expressions.specs.Kept.{Kept}
 use Rattle.profile.specs.declared.counts.FnCounts.{FnCounts}
-use Rattle.profile.specs.Counts.{HasSlots, entering}
-use Rattle.flow_net.specs.declared.Arc.{Arc}
+use Rattle.profile.specs.Counts.{entering}
 use Rattle.local_sets.specs.declared.blocks.BlockSets.{BlockSets}
 use Rattle.local_sets.specs.Blocks.{forced_after, is_forced, occurs_or_kills, IsAt, IsBlockSets}
 use Rattle.placement.specs.Costs.{weight_of}
-use Rattle.best_placement.specs.BlockNetwork.{first_arcs, last_arcs, head_node, terminator_node}
+use Rattle.best_placement.specs.BlockNetwork.{first_arcs, last_arcs}
 use Rattle.function_graphs.specs.Graphs.{place_in}
 use Rattle.function_graphs.proofs.Parts.{zip_length}
 use Rattle.block_counts.specs.Counts.{slot_counts, targets_of}
-use Rattle.block_counts.proofs.Slots.{counts_len, targets_there}
-use Rattle.reduction.specs.BlockArcs.{arcs_along, arcs_at, counted_arcs}
+use Rattle.block_counts.proofs.Slots.{targets_there}
+use Rattle.reduction.specs.BlockArcs.{counted_arcs}
+use Rattle.reduction.proofs.BySets.{arcs_along, arcs_at}
 
 -- ---- forced occurrences
 

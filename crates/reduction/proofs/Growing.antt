@@ -1,8 +1,7 @@
 -- The network of the blocks so far.
-use Rattle.std.proofs.Common.{◌≡◌, ◌<◌, ◌≤◌, ◌+◌, ◌*◌, ◌^◌, ℕ, zero, suc, Bool, List, [], ◌∷◌, ◌++◌, Some, length, map, drop, get_or, slice_get, sum_by, refl, sym, ap, ◌∙◌, subst, arith, append_assoc}
-use Rattle.std.specs.Prelude.{Vec, flat_map}
+use Rattle.std.proofs.Common.{◌≡◌, ◌<◌, ◌≤◌, ◌+◌, ◌*◌, ◌^◌, ℕ, suc, Bool, List, [], ◌∷◌, ◌++◌, Some, length, map, drop, slice_get, sym, ap, ◌∙◌, arith, append_assoc}
+use Rattle.std.specs.Prelude.{Vec}
 use Rattle.std.specs.declared.alloc.Global.{Global}
-use Rattle.std.specs.List.{AllZip}
 use Rattle.std.proofs.Math.Nat.{mul-le-mul_left}
 use Rattle.std.proofs.lemmas.List.{append-nil, drop_all, length-map}
 use Rattle.std.proofs.lemmas.List.Sums.{sum_by-cons}
@@ -10,10 +9,8 @@ use Rattle.ir_types.specs.declared.syntax.Block.{Block}
 use Rattle.ir_types.specs.declared.syntax.Function.{Function}
 use Rattle.flow_graph.specs.Slots.{slots_of}
 use Rattle.flow_graph.specs.Paths.{AreReached}
-use Rattle.point_graph.specs.Numbers.{KeepsRules, ArePoints, IsNumbered, all_edges, all_points, block_edges, block_points, of_block}
+use Rattle.point_graph.specs.Numbers.{KeepsRules, ArePoints, IsNumbered, all_edges}
 use Rattle.point_graph.specs.declared.graph.Points.{Points}
-use Rattle.expressions.specs.declared.syntax.Event.{Event}
-use Rattle.expressions.specs.Kept.{Kept}
 use Rattle.profile.specs.declared.counts.FnCounts.{FnCounts}
 use Rattle.profile.specs.Counts.{HasSlots, entering, total}
 use Rattle.flow_net.specs.declared.Arc.{Arc}
@@ -34,8 +31,9 @@ use Rattle.block_counts.proofs.Slots.{targets_there}
 use Rattle.block_places.specs.Places.{ArePlaces}
 use Rattle.block_places.proofs.Standing.{targets_are}
 use Rattle.reduction.specs.declared.building.BlockNet.{BlockNet}
-use Rattle.reduction.specs.BlockArcs.{arcs_along, arcs_at, block_arcs, paid_along, places_by}
-use Rattle.reduction.specs.Networks.{AreSetsOf, IsFullNetwork, IsNetworkOf}
+use Rattle.reduction.specs.BlockArcs.{block_arcs, places_by}
+use Rattle.reduction.proofs.BySets.{arcs_along, arcs_at, paid_along}
+use Rattle.reduction.specs.Networks.{AreSetsOf, IsFullNetwork}
 use Rattle.reduction.proofs.Along.{blocks_same, count_blocks, entry_weighs, paid_same}
 use Rattle.reduction.proofs.Bounds.{arcs_below, forced_below, forced_sum}
 use Rattle.reduction.proofs.Pushing.{drop_there}

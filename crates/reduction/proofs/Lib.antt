@@ -1,4 +1,5 @@
 pub mod ReducedLemmas
+pub mod BySets
 pub mod Along
 pub mod Pushing
 pub mod Bounds

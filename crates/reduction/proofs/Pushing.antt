@@ -1,5 +1,5 @@
 -- The arcs of a block's slots, as they are added.
-use Rattle.std.proofs.Common.{◌≡◌, ◌<◌, ◌≤◌, ◌+◌, ℕ, List, [], ◌∷◌, ◌++◌, Some, length, map, drop, get_or, slice_get, sym, ap, ◌∙◌, arith, append_assoc, refl}
+use Rattle.std.proofs.Common.{◌≡◌, ◌<◌, ◌≤◌, ◌+◌, ℕ, List, [], ◌∷◌, ◌++◌, Some, length, drop, get_or, slice_get, sym, ap, ◌∙◌, arith, append_assoc, refl}
 use Rattle.std.proofs.lemmas.List.{append-nil, drop_all, drop_more}
 use Rattle.std.proofs.lemmas.Option.{get_or_from_slice_get, slice_get_within}
 use Rattle.flow_net.specs.declared.Arc.{Arc}

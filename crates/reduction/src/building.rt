@@ -38,9 +38,9 @@ fn sets_at(sets: &[BlockSets], place: usize) -> BlockSets
 
 /// The block network of an expression, by the sets of the reached blocks in order and the counts of the function.
 ///
-/// The entry arc comes first, and then for each reached block its first event's arc, its last event's arc and its slots. The
-/// capacity of an arc is the weight of its edge or of its block. It takes linear time. `NoMemory` where an allocation was
-/// refused.
+/// The entry arc comes first, and then for each reached block the arc of its first event, that of its last event and its
+/// slots. The capacity of an arc is the weight of its edge or of its block. It takes linear time. `NoMemory` where an
+/// allocation was refused.
 pub fn network(
     alloc: Global,
     function: &Function<'_>,

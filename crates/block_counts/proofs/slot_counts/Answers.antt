@@ -1,7 +1,6 @@
-use Rattle.std.proofs.Common.{◌≡◌, ◌<◌, ◌≤◌, ◌+◌, ◌∙◌, ℕ, ap, sym, get_or, length, arith}
+use Rattle.std.proofs.Common.{◌≡◌, ◌∙◌, ap, sym, get_or, length, arith}
 use Rattle.ir_types.specs.declared.syntax.Block.{Block}
 use Rattle.flow_graph.specs.Slots.{slots_of}
-use Rattle.block_counts.specs.Counts.{slots_before}
 use Rattle.block_counts.proofs.Slots.{own_counts, read_at, width_fits}
 use Rattle.block_counts.proofs.slot_counts.Goals as goal
 

@@ -1,10 +1,7 @@
-use Rattle.std.proofs.Common.{◌≡◌, ℕ, Bool, length, map, take, get_or, Some, sym, ap, ◌∙◌, subst, arith, refl}
-use Rattle.std.proofs.lemmas.List.{take_all, length-map}
+use Rattle.std.proofs.Common.{Bool, length, get_or, sym, ap, subst, arith, refl}
 use Rattle.expressions.specs.Tables.{IsEventOf}
 use Rattle.point_graph.specs.Numbers.{KeepsRules}
 use Rattle.placement.specs.Marking.{AreEvents}
-use Rattle.profile.specs.declared.counts.FnCounts.{FnCounts}
-use Rattle.function_graphs.proofs.Lying.{shape}
 use Rattle.block_places.proofs.Standing.{block_there, targets_fit, placed_as, blocks_within, blocks_few}
 use Rattle.read_off.specs.Bits.{event_at}
 use Rattle.read_off.proofs.Adding.{reads_no_blocks}

@@ -1,4 +1,4 @@
-use Rattle.std.proofs.Common.{ℕ, arith, subst, take, get_or, ◌≤◌, length}
+use Rattle.std.proofs.Common.{ℕ, arith, subst, get_or}
 use Rattle.std.proofs.lemmas.List.{take_all, length-map}
 use Rattle.flow_graph.specs.Slots.{slots_of}
 use Rattle.read_off.specs.Bits.{ReadsSlots, targets_by}

@@ -1,6 +1,5 @@
 use Rattle.std.proofs.Common.{length, get_or, ◌<◌, arith}
 use Rattle.std.proofs.lemmas.List.{get_or_default}
-use Rattle.expressions.specs.declared.syntax.Event.{Event}
 use Rattle.expressions.specs.declared.syntax.Event.TheVariants.{Occurs, Passes}
 use Rattle.read_off.specs.Bits.{event_at}
 use Rattle.read_off.proofs.Adding.{reads_none, reads_step}

@@ -1,8 +1,4 @@
-use Rattle.std.proofs.Common.{◌≡◌, ◌<◌, ◌+◌, ◌*◌, ◌∙◌, ◌++◌, ◌∷◌, [], ℕ, Some, ap, sym, subst, get_or, slice_get, length, refl, arith}
-use Rattle.std.proofs.lemmas.List.{get_or_default}
-use Rattle.std.proofs.lemmas.Option.{slice_get-get_or}
-use Rattle.flow_graph.specs.Paths.{AreReached}
-use Rattle.profile.specs.Counts.{entering}
+use Rattle.std.proofs.Common.{◌≡◌, ◌<◌, ◌+◌, ◌*◌, ◌∙◌, ◌++◌, ◌∷◌, [], ℕ, ap, sym, subst, get_or, length, refl, arith}
 use Rattle.block_places.specs.Places.{ArePlaces}
 use Rattle.block_places.proofs.Standing.{block_there, blocks_few, blocks_within, placed_as, targets_fit}
 use Rattle.block_counts.proofs.Slots.{counts_len, read_at, targets_there}
