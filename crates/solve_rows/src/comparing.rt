@@ -4,14 +4,14 @@ ghost use Rattle.point_graph.specs.Numbers.{ArePoints};
 ghost use Rattle.expressions.specs.Tables.{IsTable};
 ghost use Rattle.profile.specs.Counts.{HasSlots, IsUnreachedZero, total};
 
-use crate::listing::places;
-use crate::telling::{Told, told};
+use crate::listing::places_of;
+use crate::telling::{Told, is_placement, tell};
 use expressions::Table;
 use ir_types::syntax::Function;
 use max_flow::Steps;
 use mc_num::NoMemory;
 use mc_solve::{Solved, solve};
-use placement::Placement;
+use placement::{Placement, cost};
 use point_graph::Points;
 use profile::FnCounts;
 use std::alloc::Global;
@@ -89,8 +89,28 @@ fn are_within(bits: &[bool], others: &[bool]) -> bool {
 }
 
 /// How another placement shows that one isn't the best.
-fn difference(best: &Told, other: &Told) -> Option<Difference> {
-    if !other.is_correct || other.cost > best.cost {
+fn shown_by(
+    alloc: Global,
+    function: &Function<'_>,
+    points: &Points,
+    table: &Table<'_, '_>,
+    e: u32,
+    counts: &FnCounts,
+    best: &Told,
+    placement: &Placement,
+) -> Result<Option<Difference>, NoMemory>
+    requires points { ArePoints function.now points.now }
+    requires table { IsTable function.now points.now table.now }
+    requires expression { e < length table.now.exprs }
+    requires slots { HasSlots function.now counts.now }
+    requires unreached { IsUnreachedZero function.now counts.now }
+    requires total { total counts.now < 2 ^ 62 }
+{
+    if !is_placement(points, placement) || cost(function, points, counts, placement) > best.cost {
+        return Ok(None);
+    }
+    let other = tell(alloc, function, points, table, e, counts, placement)?;
+    Ok(if !other.is_correct {
         None
     } else if other.cost < best.cost {
         Some(Difference::Cost)
@@ -98,7 +118,7 @@ fn difference(best: &Told, other: &Told) -> Option<Difference> {
         None
     } else {
         Some(Difference::Lives)
-    }
+    })
 }
 
 /// Whether two placements are the same.
@@ -125,7 +145,7 @@ fn compare_all(
     requires unreached { IsUnreachedZero function.now counts.now }
     requires total { total counts.now < 2 ^ 62 }
 {
-    let places = places(alloc, function, points, table, e)?;
+    let places = places_of(alloc, function, points, table, e)?;
     let Some(sets) = places.sets() else {
         return Ok(Some(Difference::Places));
     };
@@ -133,10 +153,9 @@ fn compare_all(
     for set in 0..sets {
         let placement = places.placement(alloc, set)?;
         is_listed = is_listed || are_same(&placement, found);
-        if let Some(other) = told(alloc, function, points, table, e, counts, &placement)?
-            && let Some(difference) = difference(best, &other)
-        {
-            return Ok(Some(difference));
+        let shown = shown_by(alloc, function, points, table, e, counts, best, &placement)?;
+        if shown.is_some() {
+            return Ok(shown);
         }
     }
     Ok(if is_listed {
@@ -164,9 +183,12 @@ pub fn compare(
     requires total { total counts.now < 2 ^ 62 }
 {
     let found = solved(alloc, function, points, table, e, counts)?.placement;
-    match told(alloc, function, points, table, e, counts, &found)? {
-        None => Ok(Some(Difference::Listed)),
-        Some(best) if !best.is_correct => Ok(Some(Difference::Incorrect)),
-        Some(best) => compare_all(alloc, function, points, table, e, counts, &found, &best),
+    if !is_placement(points, &found) {
+        return Ok(Some(Difference::Listed));
     }
+    let best = tell(alloc, function, points, table, e, counts, &found)?;
+    if !best.is_correct {
+        return Ok(Some(Difference::Incorrect));
+    }
+    compare_all(alloc, function, points, table, e, counts, &found, &best)
 }

@@ -11,7 +11,7 @@ use point_graph::Points;
 use std::alloc::Global;
 
 /// The most edges and occurrences of which all sets are looked at.
-const PLACES: usize = 13;
+const PLACES: usize = 14;
 
 /// The edges and the occurrences of an expression, by their numbers.
 #[derive(Drop)]
@@ -21,7 +21,7 @@ pub struct Places {
 }
 
 /// The places at which an expression may be inserted and kept.
-pub fn places(
+pub fn places_of(
     alloc: Global,
     function: &Function<'_>,
     points: &Points,

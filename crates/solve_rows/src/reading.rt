@@ -17,6 +17,7 @@ use std::alloc::Global;
 use std::test::Fail;
 
 /// A function with its counts.
+#[derive(Clone, Copy)]
 struct Counted<'m, 'a> {
     function: &'m Function<'a>,
     counts: &'m FnCounts,

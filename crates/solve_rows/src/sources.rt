@@ -144,7 +144,7 @@ more:
   %y = add i32 %p, 1
   ret i32 %y
 end:
-  ret i32 %x
+  ret i32 0
 }
 "
 }

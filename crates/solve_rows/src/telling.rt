@@ -58,8 +58,23 @@ fn live_edges(
     Ok(bits)
 }
 
-/// What a placement comes to; `None` where it isn't one of the function.
-pub fn told(
+/// Whether a placement is one of the function: its numbers ascend, and there are such edges and points.
+pub fn is_placement(points: &Points, placement: &Placement) -> bool
+    ensures inserted_ascending { IsTrue result → IsStrictlyIncreasing placement.now.inserted }
+    ensures inserted { IsTrue result → All (λ edge. edge < length points.now.edges) placement.now.inserted }
+    ensures kept_ascending { IsTrue result → IsStrictlyIncreasing placement.now.kept }
+    ensures kept { IsTrue result → All (λ point. point < length points.now.points) placement.now.kept }
+{
+    let inserted = placement.inserted.as_slice();
+    let kept = placement.kept.as_slice();
+    are_ascending(inserted)
+        && are_below(inserted, points.edges.len())
+        && are_ascending(kept)
+        && are_below(kept, points.points.len())
+}
+
+/// What a placement comes to.
+pub fn tell(
     alloc: Global,
     function: &Function<'_>,
     points: &Points,
@@ -67,28 +82,25 @@ pub fn told(
     e: u32,
     counts: &FnCounts,
     placement: &Placement,
-) -> Result<Option<Told>, NoMemory>
+) -> Result<Told, NoMemory>
     requires points { ArePoints function.now points.now }
     requires table { IsTable function.now points.now table.now }
     requires expression { e < length table.now.exprs }
     requires slots { HasSlots function.now counts.now }
     requires unreached { IsUnreachedZero function.now counts.now }
     requires total { total counts.now < 2 ^ 64 }
+    requires inserted_ascending { IsStrictlyIncreasing placement.now.inserted }
+    requires inserted { All (λ edge. edge < length points.now.edges) placement.now.inserted }
+    requires kept_ascending { IsStrictlyIncreasing placement.now.kept }
+    requires kept { All (λ point. point < length points.now.points) placement.now.kept }
 {
     let inserted = placement.inserted.as_slice();
-    let kept = placement.kept.as_slice();
-    if !are_below(inserted, points.edges.len()) || !are_ascending(inserted) {
-        return Ok(None);
-    }
-    if !are_below(kept, points.points.len()) || !are_ascending(kept) {
-        return Ok(None);
-    }
     let invalid = first_invalid(alloc, function, points, table, e, placement)?;
     let live = live_points(alloc, function, points, table, e, placement)?;
-    Ok(Some(Told {
+    Ok(Told {
         is_correct: invalid.is_none(),
         cost: cost(function, points, counts, placement),
         edges: live_edges(alloc, points.edges.as_slice(), inserted, &live)?,
         points: live,
-    }))
+    })
 }
