@@ -1,75 +1,122 @@
--- Plans by which nothing is inserted, and which say the same of occurrences, make the same of a function.
+-- Plans that say the same of edges and of occurrences make the same of a function.
 use Rattle.std.proofs.Common.{◌≡◌, ℕ, zero, suc, ◌+◌, Bool, true, false, if◌then◌else◌, List, [], ◌∷◌, ◌++◌, length, Option, Some, None, refl, sym, ap, ◌∙◌, subst, arith}
 use Rattle.std.specs.Prelude.{slice_get}
 use Rattle.std.specs.List.{AllZip}
 use Rattle.mc_num.specs.Op.{result_width}
 use Rattle.ir_types.specs.WellFormed.{targets}
 use Rattle.ir_types.specs.declared.name.Name.{Name}
-use Rattle.ir_types.specs.declared.name.Made.TheVariants.{Temp}
+use Rattle.ir_types.specs.declared.name.Made.{Made}
+use Rattle.ir_types.specs.declared.name.Made.TheVariants.{Temp, Sum, Operand as MadeOperand, Split}
 use Rattle.ir_types.specs.declared.syntax.Instr.{Instr}
-use Rattle.ir_types.specs.declared.syntax.Kind.TheVariants.{Load}
+use Rattle.ir_types.specs.declared.syntax.Kind.TheVariants.{Load, Compute}
 use Rattle.ir_types.specs.declared.syntax.Variable.TheVariants.{Local}
 use Rattle.ir_types.specs.declared.syntax.Terminator.{Terminator}
 use Rattle.ir_types.specs.declared.syntax.Terminator.TheVariants.{Return, Jump, Branch, Switch, Unreachable}
 use Rattle.ir_types.specs.declared.syntax.Block.{Block}
 use Rattle.ir_types.specs.declared.syntax.Function.{Function}
+use Rattle.expressions.specs.declared.syntax.Arg.{Arg}
 use Rattle.expressions.specs.declared.syntax.Expr.{Expr}
 use Rattle.point_graph.specs.Graph.{Point, Place, Edge, Slot}
 use Rattle.applied.specs.Motion.{Move}
 use Rattle.applied.specs.Renamed.{renamed}
-use Rattle.applied.specs.Applied.{Naming, Plan, made, StandsAt, group, groups, groups_along, edges_before, copied, store_to, is_stored, stores, has_groups, Layout, new_target, new_cases, new_term, splits_before, is_single, splits_at, block_count, temporaries, BlockApplied, FunctionApplied, AllApplied}
-
--- nothing is inserted
-abbrev pub IsQuiet : Move → Type 0
-IsQuiet move = (edge : Edge) → move.inserted edge ≡ false
+use Rattle.applied.specs.Applied.{Naming, Plan, made, StandsAt, arg_load, arg_loads, arg_operands, group, groups, groups_along, edges_before, copied, store_to, is_stored, stores, has_groups, Layout, new_target, new_cases, new_term, splits_before, is_single, splits_at, split_block, IsSplit, block_count, temporaries, BlockApplied, FunctionApplied, AllApplied}
 
 -- what the moves make of a function is the same
 pub record IsAlike (naming naming' : Naming) (move other : Move) : Type 0 where
-  pub quiet : IsQuiet move
-  pub quiet_other : IsQuiet other
+  pub prefix : naming.prefix ≡ naming'.prefix
+  pub number : move.number ≡ other.number
   pub expr : move.expr ≡ other.expr
-  pub temp : made naming (Temp move.number) ≡ made naming' (Temp other.number)
+  pub inserted : (edge : Edge) → move.inserted edge ≡ other.inserted edge
+  pub edge_numbers : (edge : Edge) → move.inserted edge ≡ true → naming.edge_number edge ≡ naming'.edge_number edge
   pub deleted : (v : Point) → move.deleted v ≡ other.deleted v
   pub stored : (b k : ℕ) → is_stored move b k ≡ is_stored other b k
 
 abbrev pub AreAlike : Plan → Plan → Type 0
 AreAlike plan other = AllZip (IsAlike plan.naming other.naming) plan.moves other.moves
 
--- ---- nothing is inserted
-
-abbrev AreQuiet : List Move → Type 0
-AreQuiet [] = Unit {0}
-AreQuiet (move ∷ moves) = IsQuiet move × AreQuiet moves
-
-groups_none : (naming : Naming) (edge : Edge) (moves : List Move) → AreQuiet moves → (n temp : ℕ) → groups naming n temp edge moves ≡ []
-groups_none naming edge [] quiet n temp = refl
-groups_none naming edge (move ∷ moves) quiet n temp =
-    let here = λ (b : Bool). if b then group naming edge n temp move else [] in
-    ap (λ b. here b ++ groups naming (n + length (here b)) (suc temp) edge moves) (quiet.0 edge)
-    ∙ groups_none naming edge moves quiet.1 (n + 0) (suc temp)
-
-along_none : (naming : Naming) (moves : List Move) → AreQuiet moves → (n temp : ℕ) (edges : List Edge) → groups_along naming n temp edges moves ≡ []
-along_none naming moves quiet n temp [] = refl
-along_none naming moves quiet n temp (edge ∷ edges) =
-    ap (λ here. here ++ groups_along naming (n + length here) temp edges moves) (groups_none naming edge moves quiet n temp)
-    ∙ along_none naming moves quiet (n + 0) temp edges
-
-has_none : (edge : Edge) (moves : List Move) → AreQuiet moves → has_groups edge moves ≡ false
-has_none edge [] quiet = refl
-has_none edge (move ∷ moves) quiet = ap (λ b. if b then true else has_groups edge moves) (quiet.0 edge) ∙ has_none edge moves quiet.1
+-- ---- lists
 
 module _ (naming naming' : Naming) where
-  quiet_of : (moves others : List Move) → AllZip (IsAlike naming naming') moves others → AreQuiet moves
-  quiet_of [] [] alike = tt
-  quiet_of [] (other ∷ others) alike = absurd alike
-  quiet_of (move ∷ moves) [] alike = absurd alike
-  quiet_of (move ∷ moves) (other ∷ others) alike = (alike.0.quiet, quiet_of moves others alike.1)
+  name_same : naming.prefix ≡ naming'.prefix → (what : Made) → made naming what ≡ made naming' what
+  name_same prefix what = ap (λ p. made (record { prefix = p; edge_number = naming.edge_number }) what) prefix
 
-  quiet_others : (moves others : List Move) → AllZip (IsAlike naming naming') moves others → AreQuiet others
-  quiet_others [] [] alike = tt
-  quiet_others [] (other ∷ others) alike = absurd alike
-  quiet_others (move ∷ moves) [] alike = absurd alike
-  quiet_others (move ∷ moves) (other ∷ others) alike = (alike.0.quiet_other, quiet_others moves others alike.1)
+  loads_same : naming.prefix ≡ naming'.prefix → (x p i : ℕ) (args : List Arg) → arg_loads naming x p i args ≡ arg_loads naming' x p i args
+  loads_same prefix x p i [] = refl
+  loads_same prefix x p i (arg ∷ args) =
+      ap (λ name. arg_load name arg ++ arg_loads naming x p (suc i) args) (name_same prefix (MadeOperand x p i))
+      ∙ ap (λ rest. arg_load (made naming' (MadeOperand x p i)) arg ++ rest) (loads_same prefix x p (suc i) args)
+
+  -- the group of an expression by its number, the number of its edge, and the expression itself
+  abbrev group_by : Naming → ℕ → ℕ → ℕ → ℕ → Expr → List Instr
+  group_by names n temp x p expr =
+      let loads = arg_loads names x p 0 expr.args in
+      let operation : Instr = record { result = Some (made names (Sum x p)); kind = Compute expr.op (arg_operands n expr.args) } in
+      loads ++ operation ∷ store_to (n + length loads) temp ∷ []
+
+  group_by_same : naming.prefix ≡ naming'.prefix → (n temp x p : ℕ) (expr : Expr) → group_by naming n temp x p expr ≡ group_by naming' n temp x p expr
+  group_by_same prefix n temp x p expr =
+      let operation : Name → Instr = λ name. record { result = Some name; kind = Compute expr.op (arg_operands n expr.args) } in
+      ap (λ loads. loads ++ operation (made naming (Sum x p)) ∷ store_to (n + length loads) temp ∷ []) (loads_same prefix x p 0 expr.args)
+      ∙ ap (λ name. arg_loads naming' x p 0 expr.args ++ operation name ∷ store_to (n + length (arg_loads naming' x p 0 expr.args)) temp ∷ []) (name_same prefix (Sum x p))
+
+  module _ (move other : Move) (alike : IsAlike naming naming' move other) where
+    group_same : (edge : Edge) → move.inserted edge ≡ true → (n temp : ℕ) → group naming edge n temp move ≡ group naming' edge n temp other
+    group_same edge inserted n temp =
+        ap (λ p. group_by naming n temp move.number p move.expr) (alike.edge_numbers edge inserted)
+        ∙ group_by_same alike.prefix n temp move.number (naming'.edge_number edge) move.expr
+        ∙ ap (λ x. group_by naming' n temp x (naming'.edge_number edge) move.expr) alike.number
+        ∙ ap (λ expr. group_by naming' n temp other.number (naming'.edge_number edge) expr) alike.expr
+
+    here_same : (edge : Edge) (n temp : ℕ) → (if move.inserted edge then group naming edge n temp move else []) ≡ (if other.inserted edge then group naming' edge n temp other else [])
+    here_same edge n temp = by (move.inserted edge) refl
+      where
+        by : (q : Bool) → move.inserted edge ≡ q → (if move.inserted edge then group naming edge n temp move else []) ≡ (if other.inserted edge then group naming' edge n temp other else [])
+        by true e =
+            ap (λ q. if q then group naming edge n temp move else []) e
+            ∙ group_same edge e n temp
+            ∙ ap (λ q. if q then group naming' edge n temp other else []) (sym e ∙ alike.inserted edge)
+        by false e =
+            ap (λ q. if q then group naming edge n temp move else []) e
+            ∙ ap (λ q. if q then group naming' edge n temp other else []) (sym e ∙ alike.inserted edge)
+
+  groups_same : (edge : Edge) (moves others : List Move) → AllZip (IsAlike naming naming') moves others → (n temp : ℕ) → groups naming n temp edge moves ≡ groups naming' n temp edge others
+  groups_same edge [] [] alike n temp = refl
+  groups_same edge [] (other ∷ others) alike n temp = absurd alike
+  groups_same edge (move ∷ moves) [] alike n temp = absurd alike
+  groups_same edge (move ∷ moves) (other ∷ others) alike n temp =
+      let here' = if other.inserted edge then group naming' edge n temp other else [] in
+      ap (λ here. here ++ groups naming (n + length here) (suc temp) edge moves) (here_same move other alike.0 edge n temp)
+      ∙ ap (λ rest. here' ++ rest) (groups_same edge moves others alike.1 (n + length here') (suc temp))
+
+  along_same : (moves others : List Move) → AllZip (IsAlike naming naming') moves others → (n temp : ℕ) (edges : List Edge) → groups_along naming n temp edges moves ≡ groups_along naming' n temp edges others
+  along_same moves others alike n temp [] = refl
+  along_same moves others alike n temp (edge ∷ edges) =
+      let here' = groups naming' n temp edge others in
+      ap (λ here. here ++ groups_along naming (n + length here) temp edges moves) (groups_same edge moves others alike n temp)
+      ∙ ap (λ rest. here' ++ rest) (along_same moves others alike (n + length here') temp edges)
+
+  has_same : (edge : Edge) (moves others : List Move) → AllZip (IsAlike naming naming') moves others → has_groups edge moves ≡ has_groups edge others
+  has_same edge [] [] alike = refl
+  has_same edge [] (other ∷ others) alike = absurd alike
+  has_same edge (move ∷ moves) [] alike = absurd alike
+  has_same edge (move ∷ moves) (other ∷ others) alike =
+      ap (λ q. if q then true else has_groups edge moves) (alike.0.inserted edge)
+      ∙ ap (λ rest. if other.inserted edge then true else rest) (has_same edge moves others alike.1)
+
+  -- the block of an edge with groups has one name
+  split_name : (edge : Edge) (moves others : List Move) → AllZip (IsAlike naming naming') moves others → has_groups edge moves ≡ true → made naming (Split (naming.edge_number edge)) ≡ made naming' (Split (naming'.edge_number edge))
+  split_name edge [] [] alike has = absurd (false_true has)
+    where
+      false_true : false ≡ true → ⊥
+      false_true e = cc
+  split_name edge [] (other ∷ others) alike has = absurd alike
+  split_name edge (move ∷ moves) [] alike has = absurd alike
+  split_name edge (move ∷ moves) (other ∷ others) alike has = first_or_rest (move.inserted edge) refl (split_name edge moves others alike.1)
+    where
+      first_or_rest : (q : Bool) → move.inserted edge ≡ q → (has_groups edge moves ≡ true → made naming (Split (naming.edge_number edge)) ≡ made naming' (Split (naming'.edge_number edge)))
+          → made naming (Split (naming.edge_number edge)) ≡ made naming' (Split (naming'.edge_number edge))
+      first_or_rest true e rest = ap (λ p. made naming (Split p)) (alike.0.edge_numbers edge e) ∙ name_same alike.0.prefix (Split (naming'.edge_number edge))
+      first_or_rest false e rest = rest (sym (ap (λ q. if q then true else has_groups edge moves) e) ∙ has)
 
   temporaries_same : (moves others : List Move) → AllZip (IsAlike naming naming') moves others → temporaries naming moves ≡ temporaries naming' others
   temporaries_same [] [] alike = refl
@@ -77,7 +124,8 @@ module _ (naming naming' : Naming) where
   temporaries_same (move ∷ moves) [] alike = absurd alike
   temporaries_same (move ∷ moves) (other ∷ others) alike =
       ap (λ (e : Expr). (result_width e.op, made naming (Temp move.number)) ∷ temporaries naming moves) alike.0.expr
-      ∙ ap (λ (name : Name). (result_width other.expr.op, name) ∷ temporaries naming moves) alike.0.temp
+      ∙ ap (λ (x : ℕ). (result_width other.expr.op, made naming (Temp x)) ∷ temporaries naming moves) alike.0.number
+      ∙ ap (λ (name : Name). (result_width other.expr.op, name) ∷ temporaries naming moves) (name_same alike.0.prefix (Temp other.number))
       ∙ ap (λ rest. (result_width other.expr.op, made naming' (Temp other.number)) ∷ rest) (temporaries_same moves others alike.1)
 
   copied_same : (number : ℕ → ℕ) (v : Point) (instr : Instr) (moves others : List Move) → AllZip (IsAlike naming naming') moves others → (temp : ℕ) → copied temp number v instr moves ≡ copied temp number v instr others
@@ -107,20 +155,14 @@ module _ (plan other : Plan) (alike : AreAlike plan other) where
   abbrev others : List Move
   others = other.moves
 
-  quiet : AreQuiet moves
-  quiet = quiet_of plan.naming other.naming moves others alike
+  along : (n temp : ℕ) (edges : List Edge) → groups_along plan.naming n temp edges moves ≡ groups_along other.naming n temp edges others
+  along n temp edges = along_same plan.naming other.naming moves others alike n temp edges
 
-  quiet' : AreQuiet others
-  quiet' = quiet_others plan.naming other.naming moves others alike
-
-  along_same : (n temp : ℕ) (edges : List Edge) → groups_along plan.naming n temp edges moves ≡ groups_along other.naming n temp edges others
-  along_same n temp edges = along_none plan.naming moves quiet n temp edges ∙ sym (along_none other.naming others quiet' n temp edges)
-
-  has_same : (edge : Edge) → has_groups edge moves ≡ has_groups edge others
-  has_same edge = has_none edge moves quiet ∙ sym (has_none edge others quiet')
+  has : (edge : Edge) → has_groups edge moves ≡ has_groups edge others
+  has edge = has_same plan.naming other.naming edge moves others alike
 
   target_same : (layout : Layout) (b slot target : ℕ) → new_target layout b slot target moves ≡ new_target layout b slot target others
-  target_same layout b slot target = ap (λ q. if q then layout.split b slot else layout.home target) (has_same (Slot b slot))
+  target_same layout b slot target = ap (λ q. if q then layout.split b slot else layout.home target) (has (Slot b slot))
 
   cases_same : (layout : Layout) (b slot : ℕ) (cases : List (ℕ × ℕ)) → new_cases layout b slot cases moves ≡ new_cases layout b slot cases others
   cases_same layout b slot [] = refl
@@ -144,7 +186,7 @@ module _ (plan other : Plan) (alike : AreAlike plan other) where
   before_same b term zero = refl
   before_same b term (suc slot) =
       ap (λ n. n + (if is_single term then 0 else (if has_groups (Slot b slot) moves then 1 else 0))) (before_same b term slot)
-      ∙ ap (λ q. splits_before b slot term others + (if is_single term then 0 else (if q then 1 else 0))) (has_same (Slot b slot))
+      ∙ ap (λ q. splits_before b slot term others + (if is_single term then 0 else (if q then 1 else 0))) (has (Slot b slot))
 
   at_same : (b slot : ℕ) (block : Option Block) → splits_at moves b slot block ≡ splits_at others b slot block
   at_same b slot None = refl
@@ -160,8 +202,8 @@ module _ (plan other : Plan) (alike : AreAlike plan other) where
     start = is.start;
     number = is.number;
     start_zero = is.start_zero;
-    number_is = λ k. is.number_is k ∙ ap (λ l. is.start k + length l) (along_same (is.start k) vars (edges_before b k block));
-    groups_stand = λ k le. subst (StandsAt block'.instrs (is.start k)) (along_same (is.start k) vars (edges_before b k block)) (is.groups_stand k le);
+    number_is = λ k. is.number_is k ∙ ap (λ l. is.start k + length l) (along (is.start k) vars (edges_before b k block));
+    groups_stand = λ k le. subst (StandsAt block'.instrs (is.start k)) (along (is.start k) vars (edges_before b k block)) (is.groups_stand k le);
     copy_stands = λ k instr there.
         let copy = copied_same plan.naming other.naming is.number (Place b k) instr moves others alike vars in
         let rest = stores_same plan.naming other.naming (is.number k) b k moves others alike vars in
@@ -170,6 +212,15 @@ module _ (plan other : Plan) (alike : AreAlike plan other) where
     ends = is.ends;
     term = is.term ∙ term_same is.number layout b block.term;
   }
+
+  -- the block that splits a slot with groups
+  split_same : (vars b slot target : ℕ) → has_groups (Slot b slot) others ≡ true → split_block plan.naming vars (Slot b slot) target moves ≡ split_block other.naming vars (Slot b slot) target others
+  split_same vars b slot target inserted =
+      let edge = Slot b slot in
+      let block : Name → List Instr → Block = λ name instrs. record { name = name; instrs = instrs; term = Jump target } in
+      let instrs = groups plan.naming 0 vars edge moves in
+      ap (λ name. block name instrs) (split_name plan.naming other.naming edge moves others alike (has edge ∙ inserted))
+      ∙ ap (λ instrs. block (made other.naming (Split (other.naming.edge_number edge))) instrs) (groups_same plan.naming other.naming edge moves others alike 0 vars)
 
   function_same : (f g : Function) → FunctionApplied plan f g → FunctionApplied other f g
   function_same f g is = record {
@@ -183,11 +234,10 @@ module _ (plan other : Plan) (alike : AreAlike plan other) where
     split_next = λ b slot. is.split_next b slot ∙ ap (λ n. suc (is.layout.home b) + n) (at_same b slot (slice_get f.blocks b));
     ends = is.ends;
     blocks = λ b block there. let new = is.blocks b block there in (new.0, new.1, block_same (length f.vars) is.layout b block new.0 new.2);
-    splits = λ b slot target block there split. absurd (inserted_nowhere (sym split.inserted ∙ has_none (Slot b slot) others quiet'));
+    splits = λ b slot target block there split.
+        let before : IsSplit moves b slot target block = record { leads = split.leads; many = split.many; inserted = has (Slot b slot) ∙ split.inserted } in
+        is.splits b slot target block there before ∙ ap (λ new. Some new) (split_same (length f.vars) b slot (is.layout.home target) split.inserted);
   }
-    where
-      inserted_nowhere : true ≡ false → ⊥
-      inserted_nowhere e = cc
 
 -- ---- a module
 

@@ -1,4 +1,6 @@
 pub mod Lists
 pub mod Alike
+pub mod Readings
+pub mod Choices
 pub mod Moving
 pub mod Whole

@@ -1,82 +1,93 @@
--- The plans of what is placed within blocks in a function say the same of its occurrences.
+-- The plans of the same placements in a function say the same of its edges and its occurrences.
 use Rattle.std.proofs.Common.{◌≡◌, ◌⊎◌, inl, inr, ⊎_elim, ℕ, zero, suc, ◌<◌, ◌≤◌, Bool, true, false, if◌then◌else◌, List, [], ◌∷◌, length, map, get_or, Some, refl, sym, ap, ◌∙◌, subst, arith}
-use Rattle.std.specs.Prelude.{AllPairs, Contains, filter, filter_map, slice_get}
-use Rattle.std.specs.List.{AllZip, range_with_len}
+use Rattle.std.specs.Prelude.{AllPairs, Contains, slice_get}
+use Rattle.std.specs.List.{AllZip}
 use Rattle.std.proofs.lemmas.Bool.{cases_lt}
-use Rattle.std.proofs.lemmas.List.Elements.{All-weaker, Contains-append_right}
+use Rattle.std.proofs.lemmas.List.Elements.{Contains-append_right}
 use Rattle.std.proofs.lemmas.Option.{slice_get_within, same_Some}
 use Rattle.ir_types.specs.Program.{Program}
-use Rattle.ir_types.specs.declared.name.Made.TheVariants.{Temp}
 use Rattle.ir_types.specs.declared.syntax.Function.{Function}
-use Rattle.point_graph.specs.Graph.{Point, Place, Inside, IsReached}
-use Rattle.point_graph.specs.Numbers.{AreReachedBlocks, ArePoints, all_points, point_of}
+use Rattle.point_graph.specs.Graph.{Point, Place, Edge, Inside, IsReached}
+use Rattle.point_graph.specs.Numbers.{ArePoints, all_edges, point_of}
 use Rattle.point_graph.specs.declared.graph.Points.{Points}
-use Rattle.expressions.specs.declared.syntax.Event.{Event}
-use Rattle.expressions.specs.Expressions.{expr_at}
-use Rattle.expressions.specs.Events.{IsEvent}
+use Rattle.point_numbers.specs.Told.{AreTold}
 use Rattle.expressions.specs.Kept.{Kept}
-use Rattle.expressions.specs.Tables.{AreFirstSeen, IsTable, IsEventOf}
+use Rattle.expressions.specs.Tables.{IsTable, IsEventOf}
+use Rattle.profile.specs.declared.counts.FnCounts.{FnCounts}
 use Rattle.placement.specs.declared.placements.Placement.{Placement}
-use Rattle.applied.specs.Motion.{Occurs, OccursIn, Writes, Met, at_point, on_edge, met, Move}
-use Rattle.applied.specs.InBlocks.{IsFresh, IsBlockMove}
-use Rattle.applied.specs.Applied.{Naming, Plan, IsFreshPrefix, made, is_stored}
+use Rattle.placement.specs.Placements.{arcs_of, IsLiveAt}
+use Rattle.placed_moves.specs.Placed.{IsPoint, IsEdge, IsPlaced}
+use Rattle.best_choice.specs.Best.{OneBestIn}
+use Rattle.applied.specs.Motion.{OccursIn, Move}
+use Rattle.applied.specs.Applied.{Plan, IsFreshPrefix, is_stored}
 use Rattle.applied.proofs.Living.{reached_next}
-use Rattle.block_placement.specs.WithinBlocks.{IsFreshAt, IsWithinBlocks}
-use Rattle.planning.specs.PlanOf.{IsNeeded, IsMoveOf, HasMove}
+use Rattle.planning.specs.PlanOf.{IsNeeded, HasMove}
 use Rattle.transform.specs.declared.placed.Placed.{Placed}
 use Rattle.transform.specs.Transformed.{IsPlanOfPlaced}
-use Rattle.optimise.specs.Optimised.{IsPlacedWithinBlocks}
-use Rattle.optimise.proofs.Within.{MoveLaws, is_block_move}
-use Rattle.one_optimised.proofs.Lists.{same_bool, get_some, same_once}
+use Rattle.optimise.specs.Choice.{AreChosen}
+use Rattle.optimise.proofs.Sound.{MoveLaws}
+use Rattle.one_optimised.proofs.Lists.{same_bool}
+use Rattle.one_optimised.proofs.Readings.{live_to}
+use Rattle.one_optimised.proofs.Choices.{AreSame, turned, event_there, same_parts, one_chosen}
 use Rattle.one_optimised.proofs.Alike.{IsAlike, AreAlike}
 
--- ---- two moves of one expression
+-- ---- two moves by one placement
 
-module _ (m : Program) (f : Function) (move other : Move) (is : IsBlockMove m f move) (also : IsBlockMove m f other) (same : move.expr ≡ other.expr) where
+module _ (f : Function) (p p' : Points) (t t' : Kept) (same : AreSame p p' t t') (x : ℕ) (placement : Placement) (move other : Move) (is : IsPlaced f p t x placement move) (also : IsPlaced f p' t' x placement other) where
+  pub point_there : (i : ℕ) (v : Point) → IsPoint f p i v → IsPoint f p' i v
+  point_there i v at = subst (λ l. slice_get (map (point_of f) l) i ≡ Some v) same.points at
+
+  pub edge_there : (n : ℕ) (edge : Edge) → IsEdge f p n edge → IsEdge f p' n edge
+  edge_there n edge at = subst (λ l. slice_get (all_edges f l) n ≡ Some edge) same.blocks at
+
+  inserted_to : (edge : Edge) → move.inserted edge ≡ true → other.inserted edge ≡ true
+  inserted_to edge inserted =
+      let n = (is.inserted_is edge).0 inserted in
+      (also.inserted_is edge).1 (n.0, edge_there n.0 edge n.1, n.2)
+
   kept_to : (v : Point) → move.kept v ≡ true → other.kept v ≡ true
   kept_to v kept =
-      let here = (is.kept_is v).0 kept in
-      (also.kept_is v).1 (here.0, subst (λ e. Occurs m f e v) same here.1, subst (λ e. IsFresh m f e v) same here.2)
-
-module _ (m : Program) (f : Function) (move other : Move) (is : IsBlockMove m f move) (also : IsBlockMove m f other) (same : move.expr ≡ other.expr) where
-  kept_same : (v : Point) → move.kept v ≡ other.kept v
-  kept_same v = same_bool (move.kept v) (other.kept v) (kept_to m f move other is also same v) (kept_to m f other move also is (sym same) v)
+      let i = (is.kept_is v).0 kept in
+      (also.kept_is v).1 (i.0, point_there i.0 v i.1, event_there f p p' t t' same x i.0 _ i.2, i.3)
 
   deleted_to : (v : Point) → move.deleted v ≡ true → other.deleted v ≡ true
   deleted_to v deleted =
-      let here = (is.deleted_is v).0 deleted in
-      (also.deleted_is v).1 (here.0, subst (λ e. Occurs m f e v) same here.1, sym (kept_same v) ∙ here.2)
+      let i = (is.deleted_is v).0 deleted in
+      (also.deleted_is v).1 (i.0, point_there i.0 v i.1, (event_there f p p' t t' same x i.0 _ i.2.0, i.2.1))
 
-  writes_back : (n : Met) → Writes other n → Writes move n
-  writes_back (at_point v) writes = kept_same v ∙ writes
-  writes_back (on_edge edge) writes = absurd (never (sym writes ∙ also.inserted_is edge))
-    where
-      never : true ≡ false → ⊥
-      never e = cc
+  live_there : (i : ℕ) (v : Point) → IsPoint f p i v → move.live v ≡ true → other.live v ≡ true
+  live_there i v at live =
+      let here = live_to (IsEventOf f p t x) (IsEventOf f p' t' x) (event_there f p p' t t' same x) (event_there f p' p t' t (turned p p' t t' same) x) (arcs_of p.edges) placement i ((is.live_is i v at).0 live) in
+      (also.live_is i v (point_there i v at)).1 (subst (λ edges. IsLiveAt (arcs_of edges) (IsEventOf f p' t' x) placement i) same.edges here)
 
-  live_to : (v : Point) → IsReached f v → move.live v ≡ true → other.live v ≡ true
-  live_to v reached live =
-      let here = (is.live_is v reached).0 live in
-      (also.live_is v reached).1 (record {
-        path = here.path;
-        occurrence = here.occurrence;
-        leads = here.leads;
-        deleted = deleted_to here.occurrence here.deleted;
-        unwritten = All-weaker (λ n. ¬ Writes move n) (λ n. ¬ Writes other n) (λ n unwritten writes. unwritten (writes_back n writes)) (met here.path) here.unwritten;
-      })
+module _ (laws : MoveLaws) (f : Function) (p p' : Points) (t t' : Kept) (same : AreSame p p' t t') (x : ℕ) (placement : Placement) (move other : Move) (is : IsPlaced f p t x placement move) (also : IsPlaced f p' t' x placement other)
+    (defined : 0 < length f.blocks) (are : ArePoints f p) (table : IsTable f p t) where
+  abbrev back : AreSame p' p t' t
+  back = turned p p' t t' same
 
-module _ (m : Program) (f : Function) (move other : Move) (is : IsBlockMove m f move) (also : IsBlockMove m f other) (same : move.expr ≡ other.expr) where
-  deleted_same : (v : Point) → move.deleted v ≡ other.deleted v
-  deleted_same v = same_bool (move.deleted v) (other.deleted v) (deleted_to m f move other is also same v) (deleted_to m f other move also is (sym same) v)
+  pub inserted_same : (edge : Edge) → move.inserted edge ≡ other.inserted edge
+  inserted_same edge = same_bool (move.inserted edge) (other.inserted edge) (inserted_to f p p' t t' same x placement move other is also edge) (inserted_to f p' p t' t back x placement other move also is edge)
+
+  kept_same : (v : Point) → move.kept v ≡ other.kept v
+  kept_same v = same_bool (move.kept v) (other.kept v) (kept_to f p p' t t' same x placement move other is also v) (kept_to f p' p t' t back x placement other move also is v)
+
+  pub deleted_same : (v : Point) → move.deleted v ≡ other.deleted v
+  deleted_same v = same_bool (move.deleted v) (other.deleted v) (deleted_to f p p' t t' same x placement move other is also v) (deleted_to f p' p t' t back x placement other move also is v)
+
+  numbers : AreTold f (map (point_of f) p.points) (all_edges f p.blocks) p.edges
+  numbers = laws.numbered f p (record { module_of = t.module_of; rules = table.rules }) defined are
 
   live_same : (v : Point) → IsReached f v → move.live v ≡ other.live v
-  live_same v reached = same_bool (move.live v) (other.live v) (live_to m f move other is also same v reached) (live_to m f other move also is (sym same) v reached)
+  live_same v reached =
+      let i = numbers.points_there v reached in
+      same_bool (move.live v) (other.live v) (live_there f p p' t t' same x placement move other is also i.0 v i.1)
+      (live_there f p' p t' t back x placement other move also is i.0 v (point_there f p p' t t' same x placement move other is also i.0 v i.1))
 
   -- the point behind a kept occurrence is reached
   behind_kept : (b k : ℕ) → move.kept (Place b k) ≡ true → IsReached f (Place b (suc k))
   behind_kept b k kept =
-      let here = (is.kept_is (Place b k)).0 kept in
-      let occurs : OccursIn m f move.expr b k = here.1 in
+      let here = (laws.told f p t x placement move defined are table is).kept_is (Place b k) kept in
+      let occurs : OccursIn t.module_of f move.expr b k = here.1 in
       reached_next f (Inside b (suc k)) (Place b k) (Place b (suc k)) (record {
         block = occurs.block;
         block_there = occurs.block_there;
@@ -85,7 +96,7 @@ module _ (m : Program) (f : Function) (move other : Move) (is : IsBlockMove m f 
         ends = refl;
       }) here.0
 
-  stored_same : (b k : ℕ) → is_stored move b k ≡ is_stored other b k
+  pub stored_same : (b k : ℕ) → is_stored move b k ≡ is_stored other b k
   stored_same b k = by (move.kept (Place b k)) refl
     where
       by : (q : Bool) → move.kept (Place b k) ≡ q → is_stored move b k ≡ is_stored other b k
@@ -93,25 +104,15 @@ module _ (m : Program) (f : Function) (move other : Move) (is : IsBlockMove m f 
           let place = Place b k in
           let next = Place b (suc k) in
           let edge = Inside b (suc k) in
-          ap (λ kept. if kept then (if move.inserted edge then false else move.live next) else false) (kept_same m f move other is also same place)
-          ∙ ap (λ q. if other.kept place then (if q then false else move.live next) else false) (is.inserted_is edge ∙ sym (also.inserted_is edge))
+          ap (λ kept. if kept then (if move.inserted edge then false else move.live next) else false) (kept_same place)
+          ∙ ap (λ q. if other.kept place then (if q then false else move.live next) else false) (inserted_same edge)
           ∙ ap (λ q. if other.kept place then (if other.inserted edge then false else q) else false) (live_same next (behind_kept b k kept))
       by false kept =
           let place = Place b k in
           let next = Place b (suc k) in
           let edge = Inside b (suc k) in
           ap (λ kept. if kept then (if move.inserted edge then false else move.live next) else false) kept
-          ∙ ap (λ kept. if kept then (if other.inserted edge then false else other.live next) else false) (sym kept ∙ kept_same m f move other is also same place)
-
-  pub are_alike : (naming naming' : Naming) → made naming (Temp move.number) ≡ made naming' (Temp other.number) → IsAlike naming naming' move other
-  are_alike naming naming' temp = record {
-    quiet = is.inserted_is;
-    quiet_other = also.inserted_is;
-    expr = same;
-    temp = temp;
-    deleted = deleted_same;
-    stored = stored_same;
-  }
+          ∙ ap (λ kept. if kept then (if other.inserted edge then false else other.live next) else false) (sym kept ∙ kept_same place)
 
 -- ---- lists of moves that ascend
 
@@ -169,7 +170,7 @@ paired R (move ∷ moves) (other ∷ others) up up' to back alike =
           (λ m o among among'. alike m o (later_there move moves m among) (later_there other others o among')),
     )
 
--- ---- prefixes, points and tables
+-- ---- prefixes
 
 pub one_prefix : (f : Function) (i j : ℕ) → IsFreshPrefix f i → IsFreshPrefix f j → i ≡ j
 one_prefix f i j is also = by (cases_lt i j) (cases_lt j i)
@@ -179,103 +180,51 @@ one_prefix f i j is also = by (cases_lt i j) (cases_lt j i)
     by (inr ge) (inl lt) = absurd (is.least j lt also.unused)
     by (inr ge) (inr ge') = omega (arith, ge, ge')
 
-one_list : (f : Function) (blocks others : List ℕ) → AreReachedBlocks f blocks → AreReachedBlocks f others → blocks ≡ others
-one_list f blocks others is also =
-    let tests : is.test ≡ also.test = λ i. λ b. same_bool (is.test b) (also.test b) (λ yes. (also.told b).1 ((is.told b).0 yes)) (λ yes. (is.told b).1 ((also.told b).0 yes)) i in
-    is.listed ∙ ap (λ test. filter test (range_with_len 0 (length f.blocks))) tests ∙ sym also.listed
-
--- the same module, points and expressions
-record AreSame (p p' : Points) (t t' : Kept) : Type 0 where
-  pub modules : t.module_of ≡ t'.module_of
-  pub points : p.points ≡ p'.points
-  pub exprs : t.exprs ≡ t'.exprs
-
-turned : (p p' : Points) (t t' : Kept) → AreSame p p' t t' → AreSame p' p t' t
-turned p p' t t' same = record { modules = sym same.modules; points = sym same.points; exprs = sym same.exprs }
-
-are_same : (f : Function) (p p' : Points) (t t' : Kept) → t.module_of ≡ t'.module_of → ArePoints f p → ArePoints f p' → IsTable f p t → IsTable f p' t' → AreSame p p' t t'
-are_same f p p' t t' modules are also table table' =
-    let points : p.points ≡ p'.points = are.points ∙ ap (all_points f) (one_list f p.blocks p'.blocks are.blocks also.blocks) ∙ sym also.points in
-    let all : filter_map (expr_at t.module_of f) p.points ≡ filter_map (expr_at t'.module_of f) p'.points =
-    ap (λ m. filter_map (expr_at m f) p.points) modules ∙ ap (filter_map (expr_at t'.module_of f)) points in
-    record {
-      modules = modules;
-      points = points;
-      exprs = same_once (filter_map (expr_at t'.module_of f) p'.points) t.exprs t'.exprs (subst (λ l. AreFirstSeen l t.exprs) all table.exprs) table'.exprs;
-    }
-
-module _ (f : Function) (p p' : Points) (t t' : Kept) (same : AreSame p p' t t') (x : ℕ) where
-  event_there : (i : ℕ) (event : Event) → IsEventOf f p t x i event → IsEventOf f p' t' x i event
-  event_there i event is = record {
-    expr = is.expr;
-    expr_there = subst (λ l. slice_get l x ≡ Some is.expr) same.exprs is.expr_there;
-    at = is.at;
-    point_there = subst (λ l. slice_get l i ≡ Some is.at) same.points is.point_there;
-    is_event = subst (λ m. IsEvent m f is.expr is.at event) same.modules is.is_event;
-  }
-
-  fresh_there : (i : ℕ) → IsFreshAt f p t x i → IsFreshAt f p' t' x i
-  fresh_there i is = record {
-    expr = is.expr;
-    there = subst (λ l. slice_get l x ≡ Some is.expr) same.exprs is.there;
-    at = is.at;
-    is_point = subst (λ l. slice_get (map (point_of f) l) i ≡ Some is.at) same.points is.is_point;
-    occurs = subst (λ m. Occurs m f is.expr is.at) same.modules is.occurs;
-    fresh = subst (λ m. IsFresh m f is.expr is.at) same.modules is.fresh;
-  }
-
--- what is needed by one is needed by the other
-needed_there : (f : Function) (p p' : Points) (t t' : Kept) (same : AreSame p p' t t') (x : ℕ) (placement placement' : Placement)
-    → IsWithinBlocks f p t x placement → IsWithinBlocks f p' t' x placement' → IsNeeded f p t x placement → IsNeeded f p' t' x placement'
-needed_there f p p' t t' same x placement placement' within within' (inl inserted) = absurd (nothing inserted.0 inserted.1)
-  where
-    nothing : (n : ℕ) → Contains placement.inserted n → ⊥
-    nothing n among = absurd (omega (arith, among.1, ap length within.nothing_inserted))
-needed_there f p p' t t' same x placement placement' within within' (inr deleted) = inr (
-  deleted.0,
-  (
-    event_there f p p' t t' same x deleted.0 _ deleted.1.0,
-    λ kept. deleted.1.1 ((within.kept_are deleted.0).1 (fresh_there f p' p t' t (turned p p' t t' same) x deleted.0 ((within'.kept_are deleted.0).0 kept))),
-  ),
-)
-
 -- ---- the plans of a function
 
-module _ (m : Program) (f : Function) (q q' : Placed) (is : IsPlacedWithinBlocks m f q) (also : IsPlacedWithinBlocks m f q') (plan other : Plan) (plan_of : IsPlanOfPlaced plan f q) (other_of : IsPlanOfPlaced other f q') where
-  abbrev modules : q.table.module_of ≡ q'.table.module_of
-  modules = is.placed.of_module ∙ sym also.placed.of_module
+-- what is needed by one is needed by the other
+needed_there : (f : Function) (p p' : Points) (t t' : Kept) (same : AreSame p p' t t') (x : ℕ) (placement : Placement) → IsNeeded f p t x placement → IsNeeded f p' t' x placement
+needed_there f p p' t t' same x placement (inl inserted) = inl inserted
+needed_there f p p' t t' same x placement (inr deleted) = inr (deleted.0, (event_there f p p' t t' same x deleted.0 _ deleted.1.0, deleted.1.1))
 
-  abbrev same : AreSame q.points q'.points q.table q'.table
-  same = are_same f q.points q'.points q.table q'.table modules is.placed.are_points also.placed.are_points is.placed.is_table also.placed.is_table
-
+module _ (f : Function) (q q' : Placed) (same : AreSame q.points q'.points q.table q'.table) (placements : q.placements ≡ q'.placements) (plan other : Plan) (plan_of : IsPlanOfPlaced plan f q) (other_of : IsPlanOfPlaced other f q') where
   partner : (move : Move) → Contains plan.moves move → HasMove other.moves move.number
   partner move among =
       let of = plan_of.moves move among in
-      let bound = slice_get_within q.placements move.number of.placement of.there in
-      let there = get_some q'.placements move.number (omega (arith, bound, is.placed.placements.count, also.placed.placements.count, ap length same.exprs)) in
-      other_of.every move.number there.0 there.1
-      (needed_there f q.points q'.points q.table q'.table same move.number of.placement there.0 (is.each move.number of.placement of.there) (also.each move.number there.0 there.1) of.needed)
+      other_of.every move.number of.placement (subst (λ l. slice_get l move.number ≡ Some of.placement) placements of.there)
+      (needed_there f q.points q'.points q.table q'.table same move.number of.placement of.needed)
 
-block_move : MoveLaws → (m : Program) (f : Function) (q : Placed) → 0 < length f.blocks → IsPlacedWithinBlocks m f q → (move : Move) → IsMoveOf f q.points q.table q.placements move → IsBlockMove m f move
-block_move laws m f q defined is move of =
-    subst (λ m. IsBlockMove m f move) is.placed.of_module
-    (is_block_move laws f q.points q.table move.number of.placement move defined is.placed.are_points is.placed.is_table (is.each move.number of.placement of.there) of.placed)
-
-module _ (laws : MoveLaws) (m : Program) (f : Function) (defined : 0 < length f.blocks) (q q' : Placed) (is : IsPlacedWithinBlocks m f q) (also : IsPlacedWithinBlocks m f q') (plan other : Plan) (plan_of : IsPlanOfPlaced plan f q) (other_of : IsPlanOfPlaced other f q') where
+module _ (laws : MoveLaws) (f : Function) (q q' : Placed) (same : AreSame q.points q'.points q.table q'.table) (placements : q.placements ≡ q'.placements) (plan other : Plan) (plan_of : IsPlanOfPlaced plan f q) (other_of : IsPlanOfPlaced other f q')
+    (defined : 0 < length f.blocks) (are : ArePoints f q.points) (table : IsTable f q.points q.table) where
   alike_moves : (move next : Move) → Contains plan.moves move → Contains other.moves next → move.number ≡ next.number → IsAlike plan.naming other.naming move next
   alike_moves move next among among' number =
       let of = plan_of.moves move among in
       let of' = other_of.moves next among' in
-      let exprs = (same m f q q' is also plan other plan_of other_of).exprs in
-      let there : slice_get q'.table.exprs next.number ≡ Some move.expr = subst (λ x. slice_get q'.table.exprs x ≡ Some move.expr) number (subst (λ l. slice_get l move.number ≡ Some move.expr) exprs of.placed.expr_there) in
-      let expr : move.expr ≡ next.expr = same_Some move.expr next.expr (sym there ∙ of'.placed.expr_there) in
-      let prefix : plan.naming.prefix ≡ other.naming.prefix = one_prefix f plan.naming.prefix other.naming.prefix plan_of.prefix other_of.prefix in
-      are_alike m f move next (block_move laws m f q defined is move of) (block_move laws m f q' defined also next of') expr plan.naming other.naming
-      (ap (λ p. made (record { prefix = p; edge_number = plan.naming.edge_number }) (Temp move.number)) prefix ∙ ap (λ n. made other.naming (Temp n)) number)
+      let there : slice_get q'.placements next.number ≡ Some of.placement = subst (λ x. slice_get q'.placements x ≡ Some of.placement) number (subst (λ l. slice_get l move.number ≡ Some of.placement) placements of.there) in
+      let one : of'.placement ≡ of.placement = same_Some of'.placement of.placement (sym of'.there ∙ there) in
+      let placed : IsPlaced f q'.points q'.table move.number of.placement next =
+      subst (λ x. IsPlaced f q'.points q'.table x of.placement next) (sym number) (subst (λ placement. IsPlaced f q'.points q'.table next.number placement next) one of'.placed) in
+      let expr_there : slice_get q'.table.exprs move.number ≡ Some move.expr = subst (λ l. slice_get l move.number ≡ Some move.expr) same.exprs of.placed.expr_there in
+      record {
+        prefix = one_prefix f plan.naming.prefix other.naming.prefix plan_of.prefix other_of.prefix;
+        number = number;
+        expr = same_Some move.expr next.expr (sym expr_there ∙ placed.expr_there);
+        inserted = inserted_same laws f q.points q'.points q.table q'.table same move.number of.placement move next of.placed placed defined are table;
+        edge_numbers = λ edge inserted.
+            let n = (of.placed.inserted_is edge).0 inserted in
+            plan_of.edge_numbers n.0 edge n.1 ∙ sym (other_of.edge_numbers n.0 edge (edge_there f q.points q'.points q.table q'.table same move.number of.placement move next of.placed placed n.0 edge n.1));
+        deleted = deleted_same laws f q.points q'.points q.table q'.table same move.number of.placement move next of.placed placed defined are table;
+        stored = stored_same laws f q.points q'.points q.table q'.table same move.number of.placement move next of.placed placed defined are table;
+      }
 
-  pub plans_alike : AreAlike plan other
-  plans_alike =
+  plans_of : AreAlike plan other
+  plans_of =
       paired (IsAlike plan.naming other.naming) plan.moves other.moves plan_of.ascending other_of.ascending
-      (partner m f q q' is also plan other plan_of other_of)
-      (partner m f q' q also is other plan other_of plan_of)
+      (partner f q q' same placements plan other plan_of other_of)
+      (partner f q' q (turned q.points q'.points q.table q'.table same) (sym placements) other plan other_of plan_of)
       alike_moves
+
+pub plans_alike : MoveLaws → OneBestIn → (m : Program) (f : Function) → 0 < length f.blocks → (counts : FnCounts) (q q' : Placed) → AreChosen m f counts q → AreChosen m f counts q'
+    → (plan other : Plan) → IsPlanOfPlaced plan f q → IsPlanOfPlaced other f q' → AreAlike plan other
+plans_alike laws one_best m f defined counts q q' is also plan other plan_of other_of =
+    plans_of laws f q q' (same_parts laws one_best m f defined counts q q' is also) (one_chosen laws one_best m f defined counts q q' is also) plan other plan_of other_of defined is.are_points is.is_table

@@ -1,21 +1,25 @@
 //! What the optimiser gives is determined.
 #![tactic(auto)]
 
-ghost use Rattle.std.specs.Prelude.{◌≡◌};
+ghost use Rattle.std.specs.Prelude.{◌≡◌, List};
 ghost use Rattle.ir_types.specs.Program.{Program};
-ghost use Rattle.ir_types.specs.WellFormed.{IsWellFormed};
-ghost use Rattle.optimise.specs.Optimised.{IsOptimised};
+ghost use Rattle.profile.specs.declared.counts.FnCounts.{FnCounts};
+ghost use Rattle.optimise.specs.Optimised.{HasTooMany, IsOptimised};
 
 use applied::{applied_stands, block_moves_are_moves};
-use placed_moves::placed_is_told;
+use best_choice::one_best_in;
+use placed_moves::{placed_is_move, placed_is_told};
 use point_numbers::points_are_told;
 
-/// A module has one optimised module.
+/// By its counts a module has one optimised module, and has none where too much would be inserted.
 pub fn one_optimised()
-    ensures { (m one other : Program) → IsWellFormed m → IsOptimised m one → IsOptimised m other → one ≡ other }
+    ensures one { (m : Program) (counts : List FnCounts) (one other : Program) → IsOptimised m counts one → IsOptimised m counts other → one ≡ other }
+    ensures not_both { (m : Program) (counts : List FnCounts) (one : Program) → IsOptimised m counts one → ¬ (HasTooMany m counts) }
 {
     applied_stands();
     block_moves_are_moves();
+    one_best_in();
+    placed_is_move();
     placed_is_told();
     points_are_told();
 }

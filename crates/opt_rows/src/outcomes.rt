@@ -6,6 +6,7 @@ use ir_printer::print;
 use ir_reader::read;
 use ir_types::module::Module;
 use optimise::optimise;
+use profile::read_profile;
 use std::alloc::Global;
 use std::process::Abort;
 use std::test::Fail;
@@ -30,17 +31,19 @@ fn expect_module(
     Ok(())
 }
 
-/// Expects that a text is optimised to this.
+/// Expects that a text is optimised to this by these counts.
 pub(crate) fn expect_optimised(
     rt: &impl Abort,
     alloc: Global,
     text: &str,
+    counts: &str,
     wanted: &str,
 ) -> Result<(), Fail> {
     let source = text.as_bytes();
-    assert!(rt; source.len() < 2000);
+    assert!(rt; source.len() < 2000 && counts.len() < 2000);
     let program = read(alloc, source)?;
-    let optimised = optimise(alloc, &program)?;
+    let profile = read_profile(alloc, counts.as_bytes(), &program)?;
+    let optimised = optimise(alloc, &program, &profile)?;
     expect_module(rt, alloc, &program, &optimised, wanted)
 }
 

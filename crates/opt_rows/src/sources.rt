@@ -31,6 +31,10 @@ join:
 }
 ";
 
+/// Counts of runs of which most take that arm.
+pub(crate) const ARM_COUNTS: &str =
+    "mcpre-profile 1\nfunc 0 100\nblock 0 90 10\nblock 1 90\nblock 2 10\nblock 3\n";
+
 /// It is kept in that arm and inserted in the other.
 pub(crate) const ARM_DONE: &str = "declare i32 @getchar()
 
@@ -89,6 +93,14 @@ warm:
   ret i32 %z
 }
 ";
+
+/// Counts of runs that never take the cold one.
+pub(crate) const BOTH_COUNTS: &str =
+    "mcpre-profile 1\nfunc 0 100\nblock 0 0 100\nblock 1\nblock 2\n";
+
+/// Counts of runs that take both.
+pub(crate) const BOTH_EVEN: &str =
+    "mcpre-profile 1\nfunc 0 100\nblock 0 50 50\nblock 1\nblock 2\n";
 
 /// It is inserted on both slots.
 pub(crate) const BOTH_ON_SLOTS: &str = "declare i32 @getchar()
@@ -182,6 +194,10 @@ exit:
 }
 ";
 
+/// Counts of one run.
+pub(crate) const LOOP_COUNTS: &str =
+    "mcpre-profile 1\nfunc 0 1\nblock 0 1\nblock 1 1000 1\nblock 2 990 10\nblock 3 990\nblock 4 1000\nblock 5\n";
+
 /// It is inserted before the loop.
 pub(crate) const LOOP_DONE: &str = "define i32 @main() {
 entry:
@@ -238,6 +254,10 @@ end:
   ret i32 0
 }
 ";
+
+/// Counts of runs of which few come there.
+pub(crate) const COLD_COUNTS: &str =
+    "mcpre-profile 1\nfunc 0 100\nblock 0 1 99\nblock 1 1\nblock 2\n";
 
 /// It is kept where it comes first.
 pub(crate) const COLD_DONE: &str = "define i32 @main() {
@@ -382,6 +402,43 @@ entry:
   ret i32 %r
 }
 ";
+
+/// A division in one arm and behind both.
+pub(crate) const QUOTIENT: &str = "declare i32 @getchar()
+
+define i32 @main() {
+entry:
+  %a = alloca i32
+  %b = alloca i32
+  %s = alloca i32
+  %g = call i32 @getchar()
+  store i32 %g, ptr %a
+  %h = call i32 @getchar()
+  store i32 %h, ptr %b
+  %g1 = load i32, ptr %a
+  %c = icmp eq i32 %g1, 65
+  br i1 %c, label %left, label %right
+left:
+  %x1 = load i32, ptr %a
+  %x2 = load i32, ptr %b
+  %x = sdiv i32 %x1, %x2
+  store i32 %x, ptr %s
+  br label %join
+right:
+  br label %join
+join:
+  %y1 = load i32, ptr %a
+  %y2 = load i32, ptr %b
+  %y = sdiv i32 %y1, %y2
+  ret i32 %y
+}
+";
+
+/// A function of one block that is entered once.
+pub(crate) const ONCE: &str = "mcpre-profile 1\nfunc 0 1\nblock 0\n";
+
+/// Two such functions.
+pub(crate) const TWICE: &str = "mcpre-profile 1\nfunc 0 1\nblock 0\nfunc 1 1\nblock 0\n";
 
 /// An expression three times in a block, with a store between.
 pub(crate) const AGAIN: &str = "define i32 @main() {
@@ -615,6 +672,9 @@ end:
   ret i32 %w
 }
 ";
+
+/// Counts of one run.
+pub(crate) const LOST_COUNTS: &str = "mcpre-profile 1\nfunc 0 1\nblock 0 1\nblock 1 0\nblock 2\n";
 
 /// It stays as it is.
 pub(crate) const LOST_DONE: &str = "define i32 @main() {

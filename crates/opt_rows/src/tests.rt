@@ -5,19 +5,38 @@ use std::test::Fail;
 #[test]
 fn expressions_are_reused_within_blocks(rt: HostRuntime) -> Result<(), Fail> {
     let rows = [
-        (AGAIN, AGAIN_DONE),
-        (TAKEN, TAKEN_DONE),
-        (GLOBAL, GLOBAL_DONE),
-        (READS, READS_DONE),
-        (CALLS, CALLS_DONE),
-        (LOST, LOST_DONE),
-        (DIVIDES, DIVIDES_DONE),
-        (ARM, ARM),
+        (AGAIN, ONCE, AGAIN_DONE),
+        (TAKEN, ONCE, TAKEN_DONE),
+        (GLOBAL, TWICE, GLOBAL_DONE),
+        (READS, ONCE, READS_DONE),
+        (CALLS, TWICE, CALLS_DONE),
+        (LOST, LOST_COUNTS, LOST_DONE),
+        (DIVIDES, ONCE, DIVIDES_DONE),
     ];
-    for (text, wanted) in rows {
-        expect_optimised(&rt, rt.alloc(), text, wanted)?;
+    for (text, counts, wanted) in rows {
+        expect_optimised(&rt, rt.alloc(), text, counts, wanted)?;
     }
     Ok(())
+}
+
+#[test]
+fn expressions_move_to_where_they_cost_least(rt: HostRuntime) -> Result<(), Fail> {
+    let rows = [
+        (ARM, ARM_COUNTS, ARM_DONE),
+        (LOOP, LOOP_COUNTS, LOOP_DONE),
+        (COLD, COLD_COUNTS, COLD_DONE),
+        (BOTH, BOTH_COUNTS, BOTH_ABOVE),
+        (BOTH, BOTH_EVEN, BOTH),
+    ];
+    for (text, counts, wanted) in rows {
+        expect_optimised(&rt, rt.alloc(), text, counts, wanted)?;
+    }
+    Ok(())
+}
+
+#[test]
+fn divisions_that_can_trap_stay_in_their_blocks(rt: HostRuntime) -> Result<(), Fail> {
+    expect_optimised(&rt, rt.alloc(), QUOTIENT, ARM_COUNTS, QUOTIENT)
 }
 
 #[test]

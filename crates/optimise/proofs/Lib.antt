@@ -1,2 +1,4 @@
+mod Chosen
+pub mod Counted
 mod Growing
-pub mod Within
+pub mod Sound

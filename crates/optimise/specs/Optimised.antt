@@ -1,19 +1,45 @@
 -- What an optimised module is.
-use Rattle.std.specs.Prelude.{◌≡◌, ℕ, List, Some, slice_get}
+use Rattle.std.specs.Prelude.{◌≡◌, ℕ, true, List, Some, length, slice_get}
 use Rattle.ir_types.specs.Program.{Program}
 use Rattle.ir_types.specs.declared.syntax.Function.{Function}
-use Rattle.placement.specs.declared.placements.Placement.{Placement}
-use Rattle.block_placement.specs.WithinBlocks.{IsWithinBlocks}
-use Rattle.transform.specs.Transformed.{Each, IsPlacedIn, IsTransformed}
+use Rattle.ir_machine.specs.Same.{is_defined}
+use Rattle.profile.specs.declared.counts.FnCounts.{FnCounts}
+use Rattle.transform.specs.Transformed.{IsTransformed, defined_before}
 use Rattle.transform.specs.declared.placed.Placed.{Placed}
+use Rattle.optimise.specs.Choice.{IsPlacedBy, IsCrowded}
+use Rattle.optimise.specs.declared.error.OptimiseError.{OptimiseError}
+use Rattle.optimise.specs.declared.error.OptimiseError.TheVariants.{TooMany, NoMemory}
 
--- each expression of the function has the placement that looks at each block by itself
-pub record IsPlacedWithinBlocks (m : Program) (f : Function) (q : Placed) : Type 0 where
-  pub placed : IsPlacedIn m f q
-  pub each : (x : ℕ) (placement : Placement) → slice_get q.placements x ≡ Some placement → IsWithinBlocks f q.points q.table x placement
+-- what is placed in the function k is what its own counts choose
+pub record HasChosen (m : Program) (counts : List FnCounts) (placed : List Placed) (k : ℕ) (f : Function) : Type 0 where
+  pub own : FnCounts
+  pub counted : slice_get counts (defined_before m.functions k) ≡ Some own
+  pub placed_here : Placed
+  pub there : slice_get placed (defined_before m.functions k) ≡ Some placed_here
+  pub holds : IsPlacedBy m f own placed_here
 
--- m' is m with the placement within blocks of each expression applied, and does what m does
-pub record IsOptimised (m m' : Program) : Type 0 where
+-- what is placed in each function that has blocks is what its own counts choose
+pub record EachChosen (m : Program) (counts : List FnCounts) (placed : List Placed) : Type 0 where
+  pub count : length placed ≡ defined_before m.functions (length m.functions)
+  pub each : (k : ℕ) (f : Function) → slice_get m.functions k ≡ Some f → is_defined f.blocks ≡ true → HasChosen m counts placed k f
+
+-- m' is m with the placements applied that are chosen by these counts, and does what m does
+pub record IsOptimised (m : Program) (counts : List FnCounts) (m' : Program) : Type 0 where
   pub placed : List Placed
-  pub are_placed : Each (IsPlacedWithinBlocks m) m.functions placed
+  pub are_chosen : EachChosen m counts placed
   pub transformed : IsTransformed m placed m'
+
+-- in some function of m the placements that are chosen by its counts insert at 2^28 edges or more
+pub record HasTooMany (m : Program) (counts : List FnCounts) : Type 0 where
+  pub number : ℕ
+  pub function : Function
+  pub there : slice_get m.functions number ≡ Some function
+  pub defined : is_defined function.blocks ≡ true
+  pub own : FnCounts
+  pub counted : slice_get counts (defined_before m.functions number) ≡ Some own
+  pub crowded : IsCrowded m function own
+
+-- why there is no optimised module
+abbrev pub IsUnoptimised : Program → List FnCounts → OptimiseError → Type 0
+IsUnoptimised m counts TooMany = HasTooMany m counts
+IsUnoptimised m counts NoMemory = Unit {0}

@@ -1,6 +1,9 @@
-//! The optimiser: what is placed where, and the module to which it is applied.
+//! The optimiser: what is placed where by the counts of a profile, and the module to which it is applied.
 #![tactic(auto)]
 
+mod choosing;
+pub mod error;
 mod optimising;
 
+pub use error::OptimiseError;
 pub use optimising::optimise;

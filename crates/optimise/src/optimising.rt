@@ -1,72 +1,59 @@
 //! The optimised module.
-ghost use Rattle.std.specs.Prelude.{◌≡◌, ◌<◌, All, IfOk, Some, length, slice_get};
+ghost use Rattle.std.specs.Prelude.{All, IfErr, IfOk, length};
 ghost use Rattle.ir_types.specs.Limits.{IsWithinLimits};
-ghost use Rattle.ir_types.specs.WellFormed.{IsFunctionIn};
-ghost use Rattle.ir_machine.specs.Same.{is_defined};
-ghost use Rattle.transform.specs.Transformed.{Each, defined_before};
-ghost use Rattle.optimise.specs.Optimised.{IsOptimised, IsPlacedWithinBlocks};
+ghost use Rattle.profile.specs.Counts.{IsAccepted};
+ghost use Rattle.optimise.specs.Optimised.{IsOptimised, IsUnoptimised};
 ghost use Rattle.optimise.specs.Placing.{ArePlacedSoFar};
 
+use crate::choosing::placed_in;
+use crate::error::OptimiseError;
 use applied::block_moves_are_moves;
-use block_placement::within_blocks;
-use expressions::table;
-use ir_types::items::Items;
 use ir_types::module::Module;
-use ir_types::syntax::Function;
-use mc_num::NoMemory;
-use placed_moves::placed_is_told;
-use point_graph::points;
+use placed_moves::{placed_is_move, placed_is_told};
 use point_numbers::points_are_told;
+use profile::{FnCounts, Profile};
 use std::alloc::Global;
 use transform::{Placed, apply, is_defined};
 
-/// What is placed in a function that has blocks.
-fn placed_in<'m, 'a>(
-    alloc: Global,
-    program: &'m Module<'a>,
-    function: &Function<'a>,
-) -> Result<Placed<'m, 'a>, NoMemory>
-    requires defined { 0 < length function.now.blocks }
-    requires rules { IsFunctionIn program.now function.now }
-    requires limits { IsWithinLimits function.now }
-    ensures { IfOk result (IsPlacedWithinBlocks program.now function.now) }
-{
-    let points = points(alloc, function)?;
-    let table = table(alloc, program, function, &points)?;
-    let placements = within_blocks(alloc, function, &points, &table)?;
-    Ok(Placed {
-        points,
-        table,
-        placements: Items::from(placements),
-    })
-}
-
-/// What is placed in each function that has blocks.
+/// What is placed in each function that has blocks, by its counts.
 fn all_placed<'m, 'a>(
     alloc: Global,
     program: &'m Module<'a>,
-) -> Result<Vec<Placed<'m, 'a>>, NoMemory>
+    counts: &[FnCounts],
+) -> Result<Vec<Placed<'m, 'a>>, OptimiseError>
     requires limits { All IsWithinLimits program.now.functions }
-    ensures { IfOk result (λ placed. ArePlacedSoFar program.now (length program.now.functions) placed.items) }
+    requires counts { IsAccepted program.now counts.now }
+    ensures placed { IfOk result (λ placed. ArePlacedSoFar program.now counts.now (length program.now.functions) placed.items) }
+    ensures unplaced { IfErr result (IsUnoptimised program.now counts.now) }
 {
     let mut placed = Vec::new(alloc);
     for function in program.functions() {
         if is_defined(function) {
-            placed.push(placed_in(alloc, program, function)?)?;
+            let own = &counts[placed.len()];
+            placed.push(placed_in(alloc, program, function, own)?)?;
         }
     }
     Ok(placed)
 }
 
-/// The module in which each expression is computed once in a block and once behind each kill, and read from a
-/// temporary elsewhere. It does what the module does. `NoMemory` where an allocation was refused.
-pub fn optimise<'a>(alloc: Global, program: &Module<'a>) -> Result<Module<'a>, NoMemory>
+/// The module in which each expression that can't trap is computed where it costs least by the counts of the profile,
+/// and each that can trap once in a block and once behind each kill; elsewhere they are read from a temporary. It does
+/// what the module does. `TooMany` where in some function this would insert at 2^28 edges or more, over all of its
+/// expressions; `NoMemory` where an allocation was refused.
+pub fn optimise<'a>(
+    alloc: Global,
+    program: &Module<'a>,
+    profile: &Profile,
+) -> Result<Module<'a>, OptimiseError>
     requires limits { All IsWithinLimits program.now.functions }
-    ensures { IfOk result (IsOptimised program.now) }
+    requires counts { IsAccepted program.now profile.now.functions }
+    ensures optimised { IfOk result (IsOptimised program.now profile.now.functions) }
+    ensures unoptimised { IfErr result (IsUnoptimised program.now profile.now.functions) }
 {
     block_moves_are_moves();
+    placed_is_move();
     placed_is_told();
     points_are_told();
-    let placed = all_placed(alloc, program)?;
-    apply(alloc, program, &placed)
+    let placed = all_placed(alloc, program, profile.functions.as_slice())?;
+    Ok(apply(alloc, program, &placed)?)
 }

@@ -9,7 +9,7 @@ use Rattle.profile.specs.Reading as profile
 use Rattle.profile.specs.declared.counts.FnCounts.{FnCounts}
 use Rattle.profile.specs.declared.reading.ProfileError.{ProfileError}
 use Rattle.profile.specs.declared.reading.ProfileError.TheVariants as errors
-use Rattle.optimise.specs.Optimised.{IsOptimised}
+use Rattle.optimise.specs.Optimised.{HasTooMany, IsOptimised}
 use Rattle.top_call.specs.declared.ending.Problem.{Problem}
 use Rattle.top_call.specs.declared.ending.Problem.TheVariants.{TooLong, Text, Grown, NoMain, LongProfile, BadProfile}
 use Rattle.top_call.specs.declared.ending.ProfileProblem.{ProfileProblem}
@@ -28,11 +28,12 @@ told_problem error problem is none =
     let P : ProfileError → Type 0 = λ e. problem_of e ≡ Some problem in
     let h = subst P none is in absurd (cc)
 
--- what is fit isn't too large
--- a module has one optimised module
-abbrev pub OneOptimised : Type 0
-OneOptimised = (m one other : Program) → IsWellFormed m → IsOptimised m one → IsOptimised m other → one ≡ other
+-- by its counts a module has one optimised module, and has none where too much would be inserted
+pub record OneOptimised : Type 0 where
+  pub one : (m : Program) (counts : List FnCounts) (one other : Program) → IsOptimised m counts one → IsOptimised m counts other → one ≡ other
+  pub not_both : (m : Program) (counts : List FnCounts) (one : Program) → IsOptimised m counts one → ¬ (HasTooMany m counts)
 
+-- what is fit isn't too large
 fit_not_grown : (m : Program) → IsFit m → ¬ (IsGrown m)
 fit_not_grown m fit (inl long) = absurd (omega (arith, fit.fits, long))
 fit_not_grown m fit (inr above) = above fit.limits
@@ -59,6 +60,22 @@ module _ (one : (bytes : List ℕ) → HasOneAnswer bytes) (one_profile : (m : P
       told_problem has.bad.error problem has.bad.is_problem
       ((one_profile program rules has.content).not_both counts has.bad.error (subst P same says.reads) (subst Q is has.bad.refuses))
 
+  -- a file is the profile of one list of counts
+  one_counts : (program : Program) (counts others : List FnCounts) → IsWellFormed program → HasCounts old files.profile program counts → HasCounts old files.profile program others → counts ≡ others
+  one_counts program counts others rules says also =
+      let same = same_content files.profile says.content also.content says.holds also.holds in
+      let P : List ℕ → Type 0 = λ l. profile.Reads program l counts in
+      (one_profile program rules also.content).one_profile counts others (subst P same says.reads) also.reads
+
+  -- what holds of the module and the counts of the files holds of them, however they were read
+  carried : (P : Program → List FnCounts → Type 0) (program other : Program) → IsWellFormed other → (x : AreAccepted files old program) (y : AreAccepted files old other) → P program x.counts → P other y.counts
+  carried P program other rules x y holds =
+      let same = same_program one old files.input program other x.reads y.reads in
+      let Says : Program → Type 0 = λ m. HasCounts old files.profile m x.counts in
+      let Holds : Program → Type 0 = λ m. P m x.counts in
+      let counts = one_counts other x.counts y.counts rules (subst Says same x.profile) y.profile in
+      subst (P other) counts (subst Holds same holds)
+
   -- files that are accepted have no problem
   no_problem : (program : Program) → AreAccepted files old program → (problem : Problem) → KeepsRules files old problem → ¬ (HasFileProblem files old problem)
   no_problem program accepted TooLong rules has = not_long one old files.input program accepted.reads has
@@ -77,7 +94,7 @@ module _ (one : (bytes : List ℕ) → HasOneAnswer bytes) (one_profile : (m : P
   keeps_rules program reads rules LongProfile = tt
   keeps_rules program reads rules TooLong = tt
   keeps_rules program reads rules (Text refusal excerpt) = tt
-  keeps_rules program reads rules Grown = tt
+  keeps_rules program reads rules Grown = (program, reads, rules)
   keeps_rules program reads rules NoMain = tt
 
   file_without_problem : (program' : Program) → IsOutput files old program' → (problem : Problem) → ¬ HasFileProblem files old problem
@@ -86,13 +103,16 @@ module _ (one : (bytes : List ℕ) → HasOneAnswer bytes) (one_profile : (m : P
       no_problem output.optimises.program output.optimises.accepted problem (keeps_rules output.optimises.program reads output.rules problem) has
 
   output_without_problem : OneOptimised → (program' : Program) → IsOutput files old program' → (problem : Problem) → ¬ HasOptProblem files old problem
-  output_without_problem once program' output Grown has =
+  output_without_problem once program' output Grown (inl large) =
       let program = output.optimises.program in
-      let made = has.1 in
-      let same = same_program one old files.input made.program program made.accepted.reads output.optimises.accepted.reads in
-      let P : Program → Type 0 = λ m. IsOptimised m has.0 in
-      let is : has.0 ≡ program' = once program has.0 program' output.rules (subst P same made.optimised) output.optimises.optimised in
-      fit_not_grown program' output.fit (subst IsGrown is has.2)
+      let made = large.1 in
+      let P : Program → List FnCounts → Type 0 = λ m counts. IsOptimised m counts large.0 in
+      let optimised : IsOptimised program output.optimises.accepted.counts large.0 = carried P made.program program output.rules made.accepted output.optimises.accepted made.optimised in
+      let is : large.0 ≡ program' = once.one program output.optimises.accepted.counts large.0 program' optimised output.optimises.optimised in
+      fit_not_grown program' output.fit (subst IsGrown is large.2)
+  output_without_problem once program' output Grown (inr crowded) =
+      let many = carried HasTooMany crowded.program output.optimises.program output.rules crowded.accepted output.optimises.accepted crowded.many in
+      once.not_both output.optimises.program output.optimises.accepted.counts program' output.optimises.optimised many
   output_without_problem once program' output TooLong has = file_without_problem program' output TooLong has
   output_without_problem once program' output (Text refusal excerpt) has = file_without_problem program' output (Text refusal excerpt) has
   output_without_problem once program' output LongProfile has = file_without_problem program' output LongProfile has
@@ -108,12 +128,25 @@ module _ (one : (bytes : List ℕ) → HasOneAnswer bytes) (one_profile : (m : P
   refused_as_grown program accepted (BadProfile problem) has rules = absurd (no_problem program accepted (BadProfile problem) rules has)
   refused_as_grown program accepted NoMain has rules = absurd has
 
-  optimisable_not_grown : AreOptimisable files old → ¬ (HasGrown files old)
-  optimisable_not_grown can grown =
-      let made = grown.1 in
-      let same = same_program one old files.input made.program can.program made.accepted.reads can.accepted.reads in
-      let P : Program → Type 0 = λ m. IsOptimised m grown.0 in
-      can.not_grown grown.0 (subst P same made.optimised) grown.2
+  -- where the module keeps the rules, what can be optimised doesn't grow
+  optimisable_not_grown : (can : AreOptimisable files old) → IsWellFormed can.program → ¬ (HasGrown files old)
+  optimisable_not_grown can rules (inl large) =
+      let made = large.1 in
+      let P : Program → List FnCounts → Type 0 = λ m counts. IsOptimised m counts large.0 in
+      can.not_grown large.0 (carried P made.program can.program rules made.accepted can.accepted made.optimised) large.2
+  optimisable_not_grown can rules (inr crowded) =
+      can.few (carried HasTooMany crowded.program can.program rules crowded.accepted can.accepted crowded.many)
+
+  -- what can be optimised isn't refused
+  optimisable_without_problem : AreOptimisable files old → (problem : Problem) → HasOptProblem files old problem → KeepsRules files old problem → ⊥
+  optimisable_without_problem can Grown has rules =
+      let kept = same_program one old files.input rules.0 can.program rules.1 can.accepted.reads in
+      optimisable_not_grown can (subst IsWellFormed kept rules.2) has
+  optimisable_without_problem can TooLong has rules = no_problem can.program can.accepted TooLong rules has
+  optimisable_without_problem can (Text refusal excerpt) has rules = no_problem can.program can.accepted (Text refusal excerpt) rules has
+  optimisable_without_problem can LongProfile has rules = no_problem can.program can.accepted LongProfile rules has
+  optimisable_without_problem can (BadProfile problem) has rules = no_problem can.program can.accepted (BadProfile problem) rules has
+  optimisable_without_problem can NoMain has rules = absurd has
 
   pub opt_not_done : OneOptimised → (new : HostState) (ending : Ending) → OptEnds files old new ending → IsTrue old.tells
       → (problem : Problem) × HasOptProblem files old problem → (status_of ending ≡ 1) ⊎ (status_of ending ≡ 3) ⊎ (status_of ending ≡ 5)
@@ -144,9 +177,11 @@ module _ (one : (bytes : List ℕ) → HasOneAnswer bytes) (one_profile : (m : P
   pub opt_complete : (new : HostState) (ending : Ending) → OptEnds files old new ending → IsTrue old.tells
       → AreOptimisable files old → ¬ (Rose old.read_faults new.read_faults) → ¬ (Rose old.write_faults new.write_faults)
       → (status_of ending ≡ 0) ⊎ (status_of ending ≡ 5)
-  opt_complete new ending ends tells can reads writes = by (opt_grown new ending ends tells can.program can.accepted reads writes)
-    where
-      by : (status_of ending ≡ 0) ⊎ (status_of ending ≡ 5) ⊎ ((status_of ending ≡ 1) × HasGrown files old) → (status_of ending ≡ 0) ⊎ (status_of ending ≡ 5)
-      by (inl zero) = inl zero
-      by (inr (inl five)) = inr five
-      by (inr (inr grown)) = absurd (optimisable_not_grown can grown.1)
+  opt_complete new (Ok done) ends tells can reads writes = inl refl
+  opt_complete new (Err (Refused file told)) ends tells can reads writes = absurd (let has = ends.2 tells in optimisable_without_problem can told has.0 has.1)
+  opt_complete new (Err (ReadFault name)) ends tells can reads writes = absurd (reads ends.1)
+  opt_complete new (Err (WriteFault name)) ends tells can reads writes = absurd (writes ends.0)
+  opt_complete new (Err OutOfMemory) ends tells can reads writes = inr refl
+  opt_complete new (Err Usage) ends tells can reads writes = absurd ends
+  opt_complete new (Err (Trapped trap)) ends tells can reads writes = absurd ends
+  opt_complete new (Err (StepLimit steps)) ends tells can reads writes = absurd ends

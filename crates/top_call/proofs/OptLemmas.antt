@@ -11,7 +11,7 @@ use Rattle.ir_types.specs.Same.{plain}
 use Rattle.ir_machine.specs.Same.{Same}
 use Rattle.ir_printer.specs.Text.{text_of}
 use Rattle.ir_reader.specs.Reading.{Reads, ReadsBack}
-use Rattle.optimise.specs.Optimised.{IsOptimised}
+use Rattle.optimise.specs.Optimised.{HasTooMany, IsOptimised}
 use Rattle.profile.specs.Reading as profile
 use Rattle.profile.specs.declared.counts.FnCounts.{FnCounts}
 use Rattle.top_call.specs.declared.ending.Problem.{Problem}
@@ -21,7 +21,7 @@ use Rattle.top_call.specs.declared.ending.Stop.{Stop}
 use Rattle.top_call.specs.declared.ending.Stop.TheVariants.{Usage, Refused, ReadFault, WriteFault, OutOfMemory, Trapped, StepLimit}
 use Rattle.top_call.specs.Row.{OptFiles}
 use Rattle.top_call.specs.Print.{ReadsAs, HasProblem, text_limit}
-use Rattle.top_call.specs.Opt.{OptEnds, AreAccepted, HasOptProblem, KeepsRules, IsOutput, LeavesParts, IsOutputFault, IsCertificateFault, refused_file, certificate_text}
+use Rattle.top_call.specs.Opt.{OptEnds, AreAccepted, HasGrown, HasOptProblem, IsGrown, KeepsRules, IsOutput, LeavesParts, IsOutputFault, IsCertificateFault, refused_file, certificate_text}
 use Rattle.top_call.specs.Stops.{StopsReading, StopsParsing, StopsCounting, StopsOptimising, StopsWritingBoth, IsOptimisedText}
 
 -- what only reads twice only reads
@@ -41,10 +41,10 @@ told : (a b : HostState) → OnlyReads a b → IsTrue a.tells → IsTrue b.tells
 told a b reads tells = reads.rights.tells ∙ tells
 
 -- the text of an optimised module that isn't too large
-pub text_made : {V E : Type 0} (items : V → List ℕ) (r : Result V E) (m m' : Program) → IsOptimised m m' → All IsWithinLimits m'.functions → ReadsBack m'
+pub text_made : {V E : Type 0} (items : V → List ℕ) (r : Result V E) (m : Program) (counts : List FnCounts) (m' : Program) → IsOptimised m counts m' → All IsWithinLimits m'.functions → ReadsBack m'
     → (Same m m' → Same m (plain m'))
-    → IfOk r (λ t. items t ≡ text_of m') → IfOk r (λ t. length (items t) ≤ text_limit) → IfOk r (λ t. IsOptimisedText m (items t))
-text_made items (Ok t) m m' optimised limits back plain_same is short =
+    → IfOk r (λ t. items t ≡ text_of m') → IfOk r (λ t. length (items t) ≤ text_limit) → IfOk r (λ t. IsOptimisedText m counts (items t))
+text_made items (Ok t) m counts m' optimised limits back plain_same is short =
     let P : List ℕ → Type 0 = λ text. length text ≤ text_limit in
     record {
       program' = m';
@@ -53,7 +53,7 @@ text_made items (Ok t) m m' optimised limits back plain_same is short =
       fit = record { fits = subst P is short; limits = limits; back = back };
       again = subst (Same m) (sym back.same) (plain_same optimised.transformed.same);
     }
-text_made items (Err e) m m' optimised limits back plain_same is short = tt
+text_made items (Err e) m counts m' optimised limits back plain_same is short = tt
 
 -- the module's file was not read
 pub read_stopped : (files : OptFiles) (old new : HostState) (stop : Stop) → StopsReading files.input TooLong old new stop → OnlyReads old new
@@ -138,18 +138,22 @@ module _ (files : OptFiles) (before mid : HostState) (bytes : List ℕ)
       count_stopped (StepLimit steps) stops = absurd stops
 
       module _ (counts : List FnCounts) (says : profile.Reads program content counts) where
-        accepted : IsTrue before.tells → AreAccepted files before program
+        abbrev accepted : IsTrue before.tells → AreAccepted files before program
         accepted tells = record {
           reads = as_read tells;
           counts = counts;
           profile = record { content = content; holds = there_before tells; short = few; reads = says };
         }
 
+        has_grown : IsTrue before.tells → ((program' : Program) × IsOptimised program counts program' × IsGrown program') ⊎ HasTooMany program counts → HasGrown files before
+        has_grown tells (inl large) = inl (large.0, record { program = program; accepted = accepted tells; optimised = large.1 }, large.2)
+        has_grown tells (inr many) = inr (record { program = program; accepted = accepted tells; many = many })
+
         -- there is no text of the optimised module
-        pub optimise_stopped : (stop : Stop) → StopsOptimising files.input program stop → OptEnds files before late (Err stop)
+        pub optimise_stopped : (stop : Stop) → StopsOptimising files.input program counts stop → OptEnds files before late (Err stop)
         optimise_stopped (Refused file problem) stops =
             let P : Problem → Type 0 = λ p. (file.now ≡ refused_file files p) × (late.file ≡ before.file) × (IsTrue before.tells → HasOptProblem files before p × KeepsRules files before p) in
-            let grown : P Grown = (stops.0, both.files, λ tells. ((stops.2.0, record { program = program; accepted = accepted tells; optimised = stops.2.1 }, stops.2.2), tt)) in
+            let grown : P Grown = (stops.0, both.files, λ tells. (has_grown tells stops.2, (program, as_read tells, rules))) in
             subst P (sym stops.1) grown
         optimise_stopped OutOfMemory stops = λ tells. inl both.files
         optimise_stopped Usage stops = absurd stops
@@ -158,7 +162,7 @@ module _ (files : OptFiles) (before mid : HostState) (bytes : List ℕ)
         optimise_stopped (Trapped trap) stops = absurd stops
         optimise_stopped (StepLimit steps) stops = absurd stops
 
-        module _ (text : List ℕ) (made : IsOptimisedText program text) (new : HostState) where
+        module _ (text : List ℕ) (made : IsOptimisedText program counts text) (new : HostState) where
           output : IsTrue before.tells → IsOutput files before made.program'
           output tells = record {
             optimises = record { program = program; accepted = accepted tells; optimised = made.optimised };

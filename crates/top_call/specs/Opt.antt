@@ -11,7 +11,7 @@ use Rattle.ir_machine.specs.Same.{Same}
 use Rattle.profile.specs.declared.counts.FnCounts.{FnCounts}
 use Rattle.profile.specs.declared.reading.ProfileError.{ProfileError}
 use Rattle.profile.specs.Reading as profile
-use Rattle.optimise.specs.Optimised.{IsOptimised}
+use Rattle.optimise.specs.Optimised.{HasTooMany, IsOptimised}
 use Rattle.top_call.specs.declared.ending.Problem.{Problem}
 use Rattle.top_call.specs.declared.ending.Problem.TheVariants.{TooLong, Text, Grown, NoMain, LongProfile, BadProfile}
 use Rattle.top_call.specs.declared.ending.ProfileProblem.{ProfileProblem}
@@ -66,11 +66,11 @@ refused_file files _ = files.input
 
 -- ---- what is made of it
 
--- this is the module and the profile of the files, optimised
+-- this is the module of the files, optimised by the counts of the profile
 pub record OptimisesTo (files : OptFiles) (host : HostState) (program' : Program) : Type 0 where
   pub program : Program
   pub accepted : AreAccepted files host program
-  pub optimised : IsOptimised program program'
+  pub optimised : IsOptimised program accepted.counts program'
 
 -- the module is too large: its text is too long, or a function has more than it may
 abbrev pub IsGrown : Program → Type 0
@@ -82,24 +82,32 @@ pub record IsFit (program' : Program) : Type 0 where
   pub limits : All IsWithinLimits program'.functions
   pub back : ReadsBack program'
 
--- the files are accepted, and the optimised module is too large
-abbrev pub HasGrown : OptFiles → HostState → Type 0
-HasGrown files host = (program' : Program) × OptimisesTo files host program' × IsGrown program'
+-- the files are accepted, and by the counts of the profile too much would be inserted
+pub record InsertsTooMany (files : OptFiles) (host : HostState) : Type 0 where
+  pub program : Program
+  pub accepted : AreAccepted files host program
+  pub many : HasTooMany program accepted.counts
 
--- the files are accepted, and the optimised module isn't too large
+-- the files are accepted, and the optimised module is too large, or there is none since too much would be inserted
+abbrev pub HasGrown : OptFiles → HostState → Type 0
+HasGrown files host = ((program' : Program) × OptimisesTo files host program' × IsGrown program') ⊎ InsertsTooMany files host
+
+-- the files are accepted, not too much would be inserted, and the optimised module isn't too large
 pub record AreOptimisable (files : OptFiles) (host : HostState) : Type 0 where
   pub program : Program
   pub accepted : AreAccepted files host program
-  pub not_grown : (program' : Program) → IsOptimised program program' → ¬ (IsGrown program')
+  pub few : ¬ (HasTooMany program accepted.counts)
+  pub not_grown : (program' : Program) → IsOptimised program accepted.counts program' → ¬ (IsGrown program')
 
--- nothing can be written: a file can't be read, or the optimised module is too large
+-- nothing can be written: a file can't be read, or the optimised module is too large, or there is none
 abbrev pub HasOptProblem : OptFiles → HostState → Problem → Type 0
 HasOptProblem files host Grown = HasGrown files host
 HasOptProblem files host problem = HasFileProblem files host problem
 
--- where the profile is refused, what the module's file reads as keeps the rules of modules
+-- where the profile or the optimised module is refused, what the module's file reads as keeps the rules of modules
 abbrev pub KeepsRules : OptFiles → HostState → Problem → Type 0
 KeepsRules files host (BadProfile problem) = (program : Program) × ReadsAs host files.input program × IsWellFormed program
+KeepsRules files host Grown = (program : Program) × ReadsAs host files.input program × IsWellFormed program
 KeepsRules files host _ = Unit {0}
 
 -- ---- what is written

@@ -16,7 +16,8 @@ use Rattle.interp.specs.Run.{Ran}
 use Rattle.interp.specs.declared.ends.RunEnd.TheVariants as runs
 use Rattle.top_call.specs.World.{World}
 use Rattle.top_call.specs.Row.{OptFiles}
-use Rattle.optimise.specs.Optimised.{IsOptimised}
+use Rattle.optimise.specs.Optimised.{HasTooMany, IsOptimised}
+use Rattle.profile.specs.declared.counts.FnCounts.{FnCounts}
 use Rattle.top_call.specs.Opt.{IsBadProfile, IsFit, IsGrown, LeavesParts, certificate_text}
 use Rattle.top_call.specs.Refused.{place_of, excerpt_at}
 
@@ -81,20 +82,20 @@ StopsCounting name content program (Refused file (BadProfile problem)) = (file.n
 StopsCounting name content program OutOfMemory = Unit {0}
 StopsCounting name content program _ = ⊥
 
--- the text is that of an optimised module that isn't too large, and what is read of it does what the module does
-pub record IsOptimisedText (program : Program) (text : List ℕ) : Type 0 where
+-- the text is that of a module optimised by the counts that isn't too large, and what is read of it does what the module does
+pub record IsOptimisedText (program : Program) (counts : List FnCounts) (text : List ℕ) : Type 0 where
   pub program' : Program
-  pub optimised : IsOptimised program program'
+  pub optimised : IsOptimised program counts program'
   pub is_text : text ≡ text_of program'
   pub fit : IsFit program'
   pub again : Same program fit.back.again
 
--- why there is no text of an optimised module
-abbrev pub StopsOptimising : (name : List ℕ) → Program → Stop → Type 0
-StopsOptimising name program (Refused file problem) =
-    (file.now ≡ name) × (problem ≡ Grown) × ((program' : Program) × IsOptimised program program' × IsGrown program')
-StopsOptimising name program OutOfMemory = Unit {0}
-StopsOptimising name program _ = ⊥
+-- why there is no text of a module optimised by the counts
+abbrev pub StopsOptimising : (name : List ℕ) → Program → List FnCounts → Stop → Type 0
+StopsOptimising name program counts (Refused file problem) =
+    (file.now ≡ name) × (problem ≡ Grown) × (((program' : Program) × IsOptimised program counts program' × IsGrown program') ⊎ HasTooMany program counts)
+StopsOptimising name program counts OutOfMemory = Unit {0}
+StopsOptimising name program counts _ = ⊥
 
 -- why OUT with this text and CERT were not both written, and what is left
 abbrev pub StopsWritingBoth : OptFiles → (text : List ℕ) → HostState → HostState → Stop → Type 0

@@ -3,6 +3,8 @@ ghost use Rattle.std.specs.Prelude.{◌≡◌, ◌≢◌, ◌≤◌, length, All
 ghost use Rattle.mc_host.specs.Host.{HostState, OnlyReads};
 ghost use Rattle.ir_types.specs.Limits.{IsWithinLimits};
 ghost use Rattle.ir_types.specs.WellFormed.{IsWellFormed};
+ghost use Rattle.optimise.specs.Optimised.{IsOptimised};
+ghost use Rattle.profile.specs.Counts.{IsAccepted};
 ghost use Rattle.profile.specs.Reading as reading;
 ghost use Rattle.top_call.specs.Command.{files_of};
 ghost use Rattle.top_call.specs.Lines.{Answers};
@@ -19,7 +21,7 @@ use ir_check::within_limits;
 use ir_reader::reads_back;
 use ir_types::module::Module;
 use mc_host::{Host, Sink};
-use optimise::optimise;
+use optimise::{OptimiseError, optimise};
 use plain_same::plain_same;
 use profile::{Profile, read_profile};
 use std::alloc::Global;
@@ -54,19 +56,41 @@ fn counted<'a>(
     }
 }
 
-/// The text of the optimised module.
+/// The module optimised by the counts, whether it is too large or not.
+fn optimised<'a, 'p>(
+    alloc: Global,
+    file: &'a str,
+    program: &Module<'p>,
+    counts: &Profile,
+) -> Result<Module<'p>, Stop<'a>>
+    requires limits { All IsWithinLimits program.now.functions }
+    requires counts { IsAccepted program.now counts.now.functions }
+    ensures optimised { IfOk result (IsOptimised program.now counts.now.functions) }
+    ensures stops { IfErr result (StopsOptimising file.now program.now counts.now.functions) }
+{
+    match optimise(alloc, program, counts) {
+        Ok(optimised) => Ok(optimised),
+        Err(OptimiseError::TooMany) => Err(Stop::Refused {
+            file,
+            problem: Problem::Grown,
+        }),
+        Err(OptimiseError::NoMemory) => Err(Stop::OutOfMemory),
+    }
+}
+
+/// The text of the module optimised by the counts.
 fn optimised_text<'a>(
     alloc: Global,
     file: &'a str,
     program: &Module<'_>,
+    counts: &Profile,
 ) -> Result<Vec<u8>, Stop<'a>>
-    requires { All IsWithinLimits program.now.functions }
-    ensures text { IfOk result (λ text. IsOptimisedText program.now text.items) }
-    ensures stops { IfErr result (StopsOptimising file.now program.now) }
+    requires limits { All IsWithinLimits program.now.functions }
+    requires counts { IsAccepted program.now counts.now.functions }
+    ensures text { IfOk result (λ text. IsOptimisedText program.now counts.now.functions text.items) }
+    ensures stops { IfErr result (StopsOptimising file.now program.now counts.now.functions) }
 {
-    let Ok(optimised) = optimise(alloc, program) else {
-        return Err(Stop::OutOfMemory);
-    };
+    let optimised = optimised(alloc, file, program, counts)?;
     if !within_limits(&optimised) {
         return Err(Stop::Refused {
             file,
@@ -125,8 +149,8 @@ fn opt_source<'a, H: Host>(
     let program = parsed(alloc, names.input, source)?;
     keeps_rules(&program);
     let profile = read_short(alloc, host, names.profile, Problem::LongProfile)?;
-    let _counts = counted(alloc, names.profile, &profile, &program)?;
-    let text = optimised_text(alloc, names.input, &program)?;
+    let counts = counted(alloc, names.profile, &profile, &program)?;
+    let text = optimised_text(alloc, names.input, &program, &counts)?;
     write_both(alloc, host, names, &text)?;
     Ok(Done::Written)
 }

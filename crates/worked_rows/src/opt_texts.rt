@@ -111,6 +111,91 @@ define i32 @f() {
 }
 ";
 
+/// A sum in one arm and behind both is computed in each arm, and read behind them.
+const ADDS_DONE: &str = "declare i32 @getchar()
+
+define i32 @main() {
+entry:
+  %a = alloca i32
+  %b = alloca i32
+  %s = alloca i32
+  %pre.1 = alloca i32
+  %g = call i32 @getchar()
+  store i32 %g, ptr %a
+  %h = call i32 @getchar()
+  store i32 %h, ptr %b
+  %g1 = load i32, ptr %a
+  %c = icmp eq i32 %g1, 65
+  br i1 %c, label %left, label %right
+left:
+  %x1 = load i32, ptr %a
+  %x2 = load i32, ptr %b
+  %x = add i32 %x1, %x2
+  store i32 %x, ptr %pre.1
+  store i32 %x, ptr %s
+  br label %join
+right:
+  %pre.1.17.0 = load i32, ptr %a
+  %pre.1.17.1 = load i32, ptr %b
+  %pre.1.17 = add i32 %pre.1.17.0, %pre.1.17.1
+  store i32 %pre.1.17, ptr %pre.1
+  br label %join
+join:
+  %y1 = load i32, ptr %a
+  %y2 = load i32, ptr %b
+  %y = load i32, ptr %pre.1
+  ret i32 %y
+}
+";
+
+/// A sum in both arms of a branch.
+const BOTH: &str = "declare i32 @getchar()
+
+define i32 @main() {
+entry:
+  %a = alloca i32
+  %g = call i32 @getchar()
+  store i32 %g, ptr %a
+  %g1 = load i32, ptr %a
+  %c = icmp slt i32 %g1, 0
+  br i1 %c, label %cold, label %warm
+cold:
+  %a2 = load i32, ptr %a
+  %y = add i32 %a2, 1
+  ret i32 %y
+warm:
+  %a3 = load i32, ptr %a
+  %z = add i32 %a3, 1
+  ret i32 %z
+}
+";
+
+/// Where one arm is never taken, it is computed before the branch.
+const BOTH_DONE: &str = "declare i32 @getchar()
+
+define i32 @main() {
+entry:
+  %a = alloca i32
+  %pre.1 = alloca i32
+  %g = call i32 @getchar()
+  store i32 %g, ptr %a
+  %g1 = load i32, ptr %a
+  %c = icmp slt i32 %g1, 0
+  %pre.1.5.0 = load i32, ptr %a
+  %pre.1.5 = add i32 %pre.1.5.0, 1
+  store i32 %pre.1.5, ptr %pre.1
+  br i1 %c, label %cold, label %warm
+cold:
+  %a2 = load i32, ptr %a
+  %y = load i32, ptr %pre.1
+  ret i32 %y
+warm:
+  %a3 = load i32, ptr %a
+  %z = load i32, ptr %pre.1
+  ret i32 %z
+}
+";
+
 // Expects both files that a row writes.
 fn expect_written<'t>(
     rt: &impl Abort,
@@ -137,9 +222,18 @@ fn optimised_modules_are_written(rt: HostRuntime) -> Result<(), Fail> {
 }
 
 #[test]
+fn modules_are_optimised_by_their_counts(rt: HostRuntime) -> Result<(), Fail> {
+    let alloc = rt.alloc();
+    expect_written(&rt, alloc, ADDS, HUNDRED, ADDS_DONE)?;
+    let warm = "mcpre-profile 1\nfunc 0 100\nblock 0 0 100\nblock 1\nblock 2\n";
+    expect_written(&rt, alloc, BOTH, warm, BOTH_DONE)?;
+    let even = "mcpre-profile 1\nfunc 0 100\nblock 0 50 50\nblock 1\nblock 2\n";
+    expect_written(&rt, alloc, BOTH, even, BOTH)
+}
+
+#[test]
 fn accepted_profiles_of_what_stays_as_it_is(rt: HostRuntime) -> Result<(), Fail> {
     let alloc = rt.alloc();
-    expect_written(&rt, alloc, ADDS, HUNDRED, ADDS)?;
     let parallel = "mcpre-profile 1\nfunc 0 7\nblock 0 3 4\nblock 1\n";
     expect_written(&rt, alloc, BRANCHES, parallel, BRANCHES)?;
     let returns = "define void @main() {\n0:\n  ret void\n}\n";

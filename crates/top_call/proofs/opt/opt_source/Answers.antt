@@ -13,15 +13,15 @@ returns-in_err-profile-clause-ends g c = λ before read holds.
     c.in_ok-program.program c.in_ok-program.ensures.read c.keeps_rules.ensures (g.H.Host.state c.read_short.new.host) c.read_short.ensures.rest
     c.in_err-profile.field-0.0 c.in_err-profile.ensures.stops)
 
-pub returns-in_err-_counts-clause-ends : goal.returns-in_err-_counts-clause-ends
-returns-in_err-_counts-clause-ends g c = λ before read holds.
-    let p = err_from_is_err_and c.from_residual-in_err-_counts.result c.from_residual-in_err-_counts.ensures.1 in
+pub returns-in_err-counts-clause-ends : goal.returns-in_err-counts-clause-ends
+returns-in_err-counts-clause-ends g c = λ before read holds.
+    let p = err_from_is_err_and c.from_residual-in_err-counts.result c.from_residual-in_err-counts.ensures.1 in
     let IsShort : List ℕ → Type 0 = λ bytes. length bytes ≤ text_limit in
     rw (p.1, p.2) (count_stopped (files_of c.args.names) before (g.H.Host.state c.args.host.now) c.args.source.now read holds c.requires.short
     c.in_ok-program.program c.in_ok-program.ensures.read c.keeps_rules.ensures (g.H.Host.state c.read_short.new.host) c.read_short.ensures.rest
     c.deref.result.now (λ tells. c.in_ok-profile.ensures.read tells ∙ ap (λ (bytes : List ℕ). Some bytes) (sym c.deref.ensures.value))
     (subst IsShort (sym c.deref.ensures.value) c.in_ok-profile.ensures.short)
-    c.in_err-_counts.field-0.0 c.in_err-_counts.ensures.stops)
+    c.in_err-counts.field-0.0 c.in_err-counts.ensures.stops)
 
 pub returns-in_err-text-clause-ends : goal.returns-in_err-text-clause-ends
 returns-in_err-text-clause-ends g c = λ before read holds.
@@ -31,7 +31,7 @@ returns-in_err-text-clause-ends g c = λ before read holds.
     c.in_ok-program.program c.in_ok-program.ensures.read c.keeps_rules.ensures (g.H.Host.state c.read_short.new.host) c.read_short.ensures.rest
     c.deref.result.now (λ tells. c.in_ok-profile.ensures.read tells ∙ ap (λ (bytes : List ℕ). Some bytes) (sym c.deref.ensures.value))
     (subst IsShort (sym c.deref.ensures.value) c.in_ok-profile.ensures.short)
-    c.in_ok-_counts._counts.functions c.in_ok-_counts.ensures.read c.in_err-text.field-0.0 c.in_err-text.ensures.stops)
+    c.in_ok-counts.counts.functions c.in_ok-counts.ensures.read c.in_err-text.field-0.0 c.in_err-text.ensures.stops)
 
 pub returns-in_err-write_both-clause-ends : goal.returns-in_err-write_both-clause-ends
 returns-in_err-write_both-clause-ends g c = λ before read holds.
@@ -41,8 +41,8 @@ returns-in_err-write_both-clause-ends g c = λ before read holds.
     c.in_ok-program.program c.in_ok-program.ensures.read c.keeps_rules.ensures (g.H.Host.state c.read_short.new.host) c.read_short.ensures.rest
     c.deref.result.now (λ tells. c.in_ok-profile.ensures.read tells ∙ ap (λ (bytes : List ℕ). Some bytes) (sym c.deref.ensures.value))
     (subst IsShort (sym c.deref.ensures.value) c.in_ok-profile.ensures.short)
-    c.in_ok-_counts._counts.functions c.in_ok-_counts.ensures.read
-    c.deref-2.result.now (subst (IsOptimisedText c.in_ok-program.program) (sym c.deref-2.ensures.value) c.in_ok-text.ensures.text)
+    c.in_ok-counts.counts.functions c.in_ok-counts.ensures.read
+    c.deref-2.result.now (subst (IsOptimisedText c.in_ok-program.program c.in_ok-counts.counts.functions) (sym c.deref-2.ensures.value) c.in_ok-text.ensures.text)
     (g.H.Host.state c.write_both.new.host) c.in_err-write_both.field-0.0 c.in_err-write_both.ensures.stops)
 
 pub returns-clause-ends : goal.returns-clause-ends
@@ -52,6 +52,6 @@ returns-clause-ends g c = λ before read holds.
     c.in_ok-program.program c.in_ok-program.ensures.read c.keeps_rules.ensures (g.H.Host.state c.read_short.new.host) c.read_short.ensures.rest
     c.deref.result.now (λ tells. c.in_ok-profile.ensures.read tells ∙ ap (λ (bytes : List ℕ). Some bytes) (sym c.deref.ensures.value))
     (subst IsShort (sym c.deref.ensures.value) c.in_ok-profile.ensures.short)
-    c.in_ok-_counts._counts.functions c.in_ok-_counts.ensures.read
-    c.deref-2.result.now (subst (IsOptimisedText c.in_ok-program.program) (sym c.deref-2.ensures.value) c.in_ok-text.ensures.text)
+    c.in_ok-counts.counts.functions c.in_ok-counts.ensures.read
+    c.deref-2.result.now (subst (IsOptimisedText c.in_ok-program.program c.in_ok-counts.counts.functions) (sym c.deref-2.ensures.value) c.in_ok-text.ensures.text)
     (g.H.Host.state c.write_both.new.host) c.in_ok-write_both.ensures.output c.in_ok-write_both.ensures.certificate

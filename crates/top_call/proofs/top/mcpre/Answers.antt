@@ -3,7 +3,7 @@ use Rattle.top_call.proofs.Rows.{not_done, complete, grown, traps, ends_nothing,
 use Rattle.top_call.proofs.top.mcpre.Goals as goal
 
 pub returns-clause-not_done : goal.returns-clause-not_done
-returns-clause-not_done g c = λ tells refused. let e = c.answer.ensures.ends in rw e.status_is (not_done c.one_answer.ensures _ _ e.ending c.one_optimised.ensures c.one_answer-2.ensures (row_of (texts c.args.words.now)) e.ends tells refused)
+returns-clause-not_done g c = λ tells refused. let e = c.answer.ensures.ends in rw e.status_is (not_done c.one_answer.ensures _ _ e.ending (record { one = c.one_optimised.ensures.one; not_both = c.one_optimised.ensures.not_both }) c.one_answer-2.ensures (row_of (texts c.args.words.now)) e.ends tells refused)
 
 pub returns-clause-trapped : goal.returns-clause-trapped
 returns-clause-trapped g c = λ tells told seven. let e = c.answer.ensures.ends in trapped _ _ (row_of (texts c.args.words.now)) e.ending e.ends _ e.status_is tells told seven

@@ -1,0 +1,54 @@
+-- Which placements are chosen for the expressions of a function.
+use Rattle.std.specs.Prelude.{◌≡◌, ◌<◌, ◌≤◌, ◌^◌, ℕ, true, false, List, Some, length, slice_get, sum_by}
+use Rattle.ir_types.specs.Program.{Program}
+use Rattle.ir_types.specs.declared.syntax.Function.{Function}
+use Rattle.point_graph.specs.Numbers.{ArePoints}
+use Rattle.point_graph.specs.declared.graph.Points.{Points}
+use Rattle.expressions.specs.declared.syntax.Expr.{Expr}
+use Rattle.expressions.specs.Expressions.{expr_traps}
+use Rattle.expressions.specs.Kept.{Kept}
+use Rattle.expressions.specs.Tables.{IsTable}
+use Rattle.profile.specs.declared.counts.FnCounts.{FnCounts}
+use Rattle.placement.specs.declared.placements.Placement.{Placement}
+use Rattle.best_choice.specs.Best.{IsBestIn}
+use Rattle.block_placement.specs.WithinBlocks.{IsWithinBlocks}
+use Rattle.transform.specs.declared.placed.Placed.{Placed}
+
+-- an expression that can't trap has its best placement by the counts of the function, and one that can trap the placement
+-- within blocks
+pub record IsChosen (f : Function) (p : Points) (t : Kept) (counts : FnCounts) (x : ℕ) (placement : Placement) : Type 0 where
+  pub expr : Expr
+  pub there : slice_get t.exprs x ≡ Some expr
+  pub best : expr_traps expr ≡ false → IsBestIn f p t x counts placement
+  pub within : expr_traps expr ≡ true → IsWithinBlocks f p t x placement
+
+-- one placement for each expression of the table, and each is the chosen one
+pub record AreEachChosen (f : Function) (p : Points) (t : Kept) (counts : FnCounts) (placements : List Placement) : Type 0 where
+  pub count : length placements ≡ length t.exprs
+  pub each : (x : ℕ) (placement : Placement) → slice_get placements x ≡ Some placement → IsChosen f p t counts x placement
+
+-- the points and the table of a function, and the placements that are chosen by its counts
+pub record AreChosen (m : Program) (f : Function) (counts : FnCounts) (q : Placed) : Type 0 where
+  pub are_points : ArePoints f q.points
+  pub of_module : q.table.module_of ≡ m
+  pub is_table : IsTable f q.points q.table
+  pub placements : AreEachChosen f q.points q.table counts q.placements
+
+-- at how many edges something is inserted, over all of these placements
+abbrev pub insertions : List Placement → ℕ
+insertions placements = sum_by (λ placement. length placement.inserted) placements
+
+-- the placements insert at fewer than 2^28 edges
+abbrev pub AreFew : List Placement → Type 0
+AreFew placements = insertions placements < 2 ^ 28
+
+-- what is chosen in the function inserts at so few edges that it can be applied
+pub record IsPlacedBy (m : Program) (f : Function) (counts : FnCounts) (q : Placed) : Type 0 where
+  pub chosen : AreChosen m f counts q
+  pub few : AreFew q.placements
+
+-- what is chosen in the function inserts at 2^28 edges or more
+pub record IsCrowded (m : Program) (f : Function) (counts : FnCounts) : Type 0 where
+  pub placed : Placed
+  pub chosen : AreChosen m f counts placed
+  pub many : 2 ^ 28 ≤ insertions placed.placements
