@@ -1,5 +1,5 @@
 -- Two readings of what occurs, kills and bars, alike at every point, tell the same of placements.
-use Rattle.std.proofs.Common.{◌≡◌, ◌<◌, ◌≤◌, ◌↔◌, ◌⊎◌, ℕ, zero, suc, Bool, List, ◌∷◌, [], ◌++◌, length, get_or, refl, sym, ◌∙◌, subst, inl, inr, ⊎_elim}
+use Rattle.std.proofs.Common.{◌≡◌, ◌<◌, ◌≤◌, ◌↔◌, ◌⊎◌, ℕ, zero, suc, Bool, List, ◌∷◌, [], ◌++◌, length, sym, ◌∙◌, subst, inl, inr, ⊎_elim}
 use Rattle.std.proofs.lemmas.Bool.{cases_lt}
 use Rattle.std.proofs.lemmas.List.{get_or_default, get_or_past}
 use Rattle.ir_types.specs.declared.syntax.Function.{Function}
@@ -8,15 +8,15 @@ use Rattle.expressions.specs.declared.syntax.Event.{Event}
 use Rattle.expressions.specs.declared.syntax.Event.TheVariants.{Occurs, Kills as KillsIt, Bars, Passes}
 use Rattle.expressions.specs.Kept.{Kept}
 use Rattle.expressions.specs.Tables.{IsEventOf}
-use Rattle.flow_paths.specs.Paths.{source, target, Place, at_point, on_edge, met, IsValid}
+use Rattle.flow_paths.specs.Paths.{source, target, Place, at_point, on_edge, met}
 use Rattle.flow_paths.specs.Spreads.{IsSet}
 use Rattle.flow_paths.specs.Inevitable.{LeadsAllTo, IsInevitableWithin}
 use Rattle.placement.specs.declared.placements.Placement.{Placement}
 use Rattle.placement.specs.Marking.{AreEvents}
-use Rattle.placement.specs.Placements.{Kills, IsInevitable, IsCorrect, IsSafe, IsLiveAt, IsLiveOn}
+use Rattle.placement.specs.Placements.{Kills, IsInevitable, IsCorrect, IsSafe, IsLiveOn}
 use Rattle.placement.proofs.EventLemmas.{one_event, event_inside}
 use Rattle.best_placement.specs.Blocks.{HasEvent}
-use Rattle.best_choice.specs.Best.{IsPlacementOn, LivesWithin}
+use Rattle.best_choice.specs.Best.{IsPlacementOn}
 use Rattle.function_graphs.specs.Graphs.{AreEventsOf}
 use Rattle.function_graphs.proofs.Agreeing.{correct_too, live_too}
 use Rattle.lazy_motion.specs.Motion.{IsOccurrence, IsEarly, IsEarlyPlace, IsDelayedOn, IsDelayedAt, IsLazy}

@@ -14,7 +14,7 @@ use Rattle.lazy_motion.specs.Motion.{IsOccurrence, IsEarly, IsEarlyPlace, IsDela
 use Rattle.lazy_motion.specs.Optimality.{IsSettled, computations_at, computations, ComputesAtMost}
 use Rattle.lazy_motion.specs.Steps.{bit}
 use Rattle.lazy_motion.proofs.LazyLemmas.{Given, Computed, Begun, inevitable_next, begun_before, delayed_before, early_or_not, delayed_or_not}
-use Rattle.lazy_motion.proofs.PathSteps.{occurs_or_not, contains_or_not, path_induction, ends_within, IsPath-push, IsValid-nil, IsValid-write, IsValid-keep, IsValid-last, edge_writes, edge_last, point_writes, path_keeps, sum_met_push, counts_inserted, counts_not_inserted, counts_kept, counts_not_kept}
+use Rattle.lazy_motion.proofs.PathSteps.{occurs_or_not, contains_or_not, path_induction, IsPath-push, IsValid-nil, IsValid-write, IsValid-keep, IsValid-last, edge_writes, edge_last, point_writes, path_keeps, sum_met_push, counts_inserted, counts_not_inserted, counts_kept, counts_not_kept}
 
 -- the list holds the number or not
 pub member_or_not : (xs : List ℕ) (v : ℕ) → Contains xs v ⊎ (Contains xs v → ⊥)

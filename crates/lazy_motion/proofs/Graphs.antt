@@ -12,7 +12,7 @@ use Rattle.flow_paths.specs.Paths.{Connects}
 use Rattle.placement.specs.Marking.{AreEvents}
 use Rattle.placement.specs.Placements.{arcs_of}
 use Rattle.best_placement.specs.Laws.{IsExpressionGraph}
-use Rattle.function_graphs.specs.Graphs.{graph_of, IsIn, FunctionsHaveGraphs}
+use Rattle.function_graphs.specs.Graphs.{graph_of, FunctionsHaveGraphs}
 use Rattle.lazy_motion.specs.Steps.{event_at}
 use Rattle.lazy_motion.proofs.Alike.{events_told}
 

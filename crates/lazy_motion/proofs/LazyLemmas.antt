@@ -16,7 +16,7 @@ use Rattle.lazy_motion.specs.Motion.{IsOccurrence, IsEarly, IsEarlyPlace, IsDela
 use Rattle.lazy_motion.specs.Steps.{bit}
 use Rattle.lazy_motion.proofs.InevitableLemmas.{inevitable_ahead}
 use Rattle.lazy_motion.proofs.MotionBits.{delayed_stable}
-use Rattle.lazy_motion.proofs.PathSteps.{occurs_or_not, kills_or_not, path_induction, ends_within, IsPath-push, IsValid-nil, IsValid-last, edge_writes, edge_last, edge_keeps, point_writes, path_keeps}
+use Rattle.lazy_motion.proofs.PathSteps.{occurs_or_not, kills_or_not, path_induction, IsPath-push, IsValid-nil, IsValid-last, edge_writes, edge_last, edge_keeps, point_writes, path_keeps}
 
 -- arcs join points, Start passes, occurrences are points, and some path leads to each point
 pub record Graph (arcs : List (ℕ × ℕ)) (n : ℕ) (event : ℕ → Event) : Type 0 where

@@ -18,7 +18,7 @@ use Rattle.lazy_motion.specs.Optimality.{computations_at, computations, Computes
 use Rattle.lazy_motion.proofs.InevitableLemmas.{IsInevitableIn, ahead_within, inevitable_ahead}
 use Rattle.lazy_motion.proofs.LazyLemmas.{Given, delayed_behind, delayed_at_or_not}
 use Rattle.lazy_motion.proofs.Counting.{early_at, count, early_count, counts_not_early, point_spent, spent, spent_end, Pending, earned, kept_unless_valid}
-use Rattle.lazy_motion.proofs.PathSteps.{occurs_or_not, IsPath-push, ends_within, IsValid-front, sum_met_append, All-from_zero, zero_from_All, counts_inserted, counts_not_inserted, counts_kept, counts_not_kept}
+use Rattle.lazy_motion.proofs.PathSteps.{occurs_or_not, IsPath-push, IsValid-front, sum_met_append, All-from_zero, zero_from_All, counts_inserted, counts_not_inserted, counts_kept, counts_not_kept}
 
 -- a place that adds nothing to the computations does not write
 zero_unwritten : (event : ℕ → Event) (q : Placement) (m : Place) → computations_at q m ≡ 0 → ¬ Writes (HasEvent event) q m

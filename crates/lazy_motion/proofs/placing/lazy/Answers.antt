@@ -1,12 +1,8 @@
-use Rattle.std.proofs.Common.{◌≡◌, ◌<◌, ◌↔◌, ◌∙◌, ℕ, length, sym, subst, arith}
+use Rattle.std.proofs.Common.{length}
 use Rattle.std.proofs.lemmas.Result.{IfOk-weaker}
 use Rattle.expressions.specs.Tables.{IsEventOf}
-use Rattle.expressions.specs.declared.syntax.Event.TheVariants.{Passes}
-use Rattle.flow_paths.specs.Paths.{ArcsWithin, Connects}
-use Rattle.flow_paths.specs.Spreads.{IsSet}
-use Rattle.placement.specs.Marking.{AreEvents}
-use Rattle.placement.specs.Placements.{arcs_of, IsCorrect, IsInevitable, IsSafe}
-use Rattle.placement.proofs.GraphLemmas.{arcs_length, arcs_within}
+use Rattle.placement.specs.Placements.{arcs_of, IsCorrect, IsSafe}
+use Rattle.placement.proofs.GraphLemmas.{arcs_within}
 use Rattle.best_placement.specs.Blocks.{HasEvent}
 use Rattle.best_choice.specs.Best.{IsPlacementOn}
 use Rattle.lazy_motion.specs.Motion.{IsLazy}

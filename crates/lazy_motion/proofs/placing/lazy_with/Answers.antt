@@ -1,10 +1,6 @@
-use Rattle.std.proofs.Common.{◌<◌, ◌≡◌, ℕ, All, length, get_or, sym, subst, ap}
-use Rattle.std.specs.List.Sorted.{IsStrictlyIncreasing}
-use Rattle.std.proofs.lemmas.List.Elements.{Contains-get_or}
-use Rattle.expressions.specs.declared.syntax.Event.TheVariants.{Occurs}
+use Rattle.std.proofs.Common.{length, sym}
 use Rattle.placement.specs.declared.placements.Placement.{Placement}
 use Rattle.best_placement.specs.Blocks.{HasEvent}
-use Rattle.best_choice.specs.Best.{IsPlacementOn}
 use Rattle.lazy_motion.specs.Motion.{IsLazy}
 use Rattle.lazy_motion.specs.Steps.{event_at}
 use Rattle.lazy_motion.proofs.MotionBits.{lazy_is, kept_listed, event_listed, occurrence_listed}
@@ -43,7 +39,7 @@ returns c =
     (kept_listed events event (event_listed events) p.kept undelayed (rw (c.deref-5.ensures.value, sym c.from-2.ensures) at c.in_ok-kept.ensures.items)) in
     record {
       lazy = lazy;
-      placement = lazy_placed arcs n event given p lazy (rw sym c.from.ensures at c.in_ok-inserted.ensures.ascending) (rw sym c.from-2.ensures at c.in_ok-kept.ensures.ascending);
+      placement = lazy_placed arcs n event given p lazy (rw (sym c.from.ensures) at c.in_ok-inserted.ensures.ascending) (rw (sym c.from-2.ensures) at c.in_ok-kept.ensures.ascending);
       correct = lazy_correct arcs n event given p lazy;
       safe = lazy_safe arcs n event given p lazy;
       best = λ q correct safe. lazy_best arcs n event given q correct safe p lazy;
