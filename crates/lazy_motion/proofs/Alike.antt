@@ -106,8 +106,8 @@ module _ (arcs : List (ℕ × ℕ)) where
     occurrences = λ k d lt. (a.occurs _).0 (h.occurrences k d lt);
   }
 
-  pub right_too : (Is Js : ℕ → Event → Type 0) → Alike Is Js → (p : Placement) → IsCorrect arcs Is p → IsCorrect arcs Js p
-  right_too Is Js a p correct = correct_too Is Js a.occurs a.kills p arcs correct
+  pub is_correct_too : (Is Js : ℕ → Event → Type 0) → Alike Is Js → (p : Placement) → IsCorrect arcs Is p → IsCorrect arcs Js p
+  is_correct_too Is Js a p correct = correct_too Is Js a.occurs a.kills p arcs correct
 
   pub safe_too : (Is Js : ℕ → Event → Type 0) → Alike Is Js → (p : Placement) → IsSafe arcs Is p → IsSafe arcs Js p
   safe_too Is Js a p safe e c = inevitable_too Is Js a (target arcs e) (safe e c)
@@ -127,7 +127,7 @@ module _ (arcs : List (ℕ × ℕ)) where
   pub least_too : (Is Js : ℕ → Event → Type 0) → Alike Is Js → (p : Placement) → ComputesLeast arcs Is p → ComputesLeast arcs Js p
   least_too Is Js a p least q correct safe =
       let back = alike_back Is Js a in
-      at_most_too Is Js a p q (least q (right_too Js Is back q correct) (safe_too Js Is back q safe))
+      at_most_too Is Js a p q (least q (is_correct_too Js Is back q correct) (safe_too Js Is back q safe))
 
   live_on_too : (Is Js : ℕ → Event → Type 0) → Alike Is Js → (p : Placement) (e : ℕ) → IsLiveOn arcs Is p e → IsLiveOn arcs Js p e
   live_on_too Is Js a p e l = (l.0, live_too Is Js a.occurs a.kills p arcs (target arcs e) l.1)
@@ -135,7 +135,7 @@ module _ (arcs : List (ℕ × ℕ)) where
   pub lives_too : (n : ℕ) (Is Js : ℕ → Event → Type 0) → Alike Is Js → (p : Placement) → LivesLeast arcs n Is p → LivesLeast arcs n Js p
   lives_too n Is Js a p lives q correct safe as_few =
       let back = alike_back Is Js a in
-      let within = lives q (right_too Js Is back q correct) (safe_too Js Is back q safe) (at_most_too Js Is back q p as_few) in (
+      let within = lives q (is_correct_too Js Is back q correct) (safe_too Js Is back q safe) (at_most_too Js Is back q p as_few) in (
         λ v h l. live_too Is Js a.occurs a.kills q arcs v (within.0 v h (live_too Js Is back.occurs back.kills p arcs v l)),
         λ e h l. live_on_too Is Js a q e (within.1 e h (live_on_too Js Is back p e l)),
       )

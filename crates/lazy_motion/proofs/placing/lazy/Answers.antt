@@ -8,7 +8,7 @@ use Rattle.best_choice.specs.Best.{IsPlacementOn}
 use Rattle.lazy_motion.specs.Motion.{IsLazy}
 use Rattle.lazy_motion.specs.Optimality.{ComputesLeast, LivesLeast}
 use Rattle.lazy_motion.specs.Steps.{event_at}
-use Rattle.lazy_motion.proofs.Alike.{events_alike, lazy_too, placement_too, right_too, safe_too, least_too, lives_too, inevitable_same}
+use Rattle.lazy_motion.proofs.Alike.{events_alike, lazy_too, placement_too, is_correct_too, safe_too, least_too, lives_too, inevitable_same}
 use Rattle.lazy_motion.proofs.Graphs.{start_passes, all_reached}
 use Rattle.lazy_motion.proofs.placing.lazy.Goals as goal
 
@@ -43,7 +43,7 @@ returns c =
           (rw (c.deref.ensures.value, c.deref-2.ensures.value, c.in_ok-arcs.ensures, c.as_slice.ensures) at c.lazy_with.ensures.lazy);
       placement = IfOk-weaker r (λ p. IsPlacementOn arcs n listed p) (λ p. IsPlacementOn arcs n told p) (λ p h. placement_too arcs n listed told alike p h)
           (rw (c.deref.ensures.value, c.deref-2.ensures.value, c.in_ok-arcs.ensures, c.as_slice.ensures, c.in_ok-events.ensures.len) at c.lazy_with.ensures.placement);
-      correct = IfOk-weaker r (λ p. IsCorrect arcs listed p) (λ p. IsCorrect arcs told p) (λ p h. right_too arcs listed told alike p h)
+      correct = IfOk-weaker r (λ p. IsCorrect arcs listed p) (λ p. IsCorrect arcs told p) (λ p h. is_correct_too arcs listed told alike p h)
           (rw (c.deref.ensures.value, c.deref-2.ensures.value, c.in_ok-arcs.ensures, c.as_slice.ensures) at c.lazy_with.ensures.correct);
       safe = IfOk-weaker r (λ p. IsSafe arcs listed p) (λ p. IsSafe arcs told p) (λ p h. safe_too arcs listed told alike p h)
           (rw (c.deref.ensures.value, c.deref-2.ensures.value, c.in_ok-arcs.ensures, c.as_slice.ensures) at c.lazy_with.ensures.safe);
