@@ -1,0 +1,10 @@
+pub mod Alike
+pub mod BitLemmas
+pub mod Counting
+pub mod Graphs
+pub mod InevitableLemmas
+pub mod LazyLemmas
+pub mod LeastLives
+pub mod MotionBits
+pub mod PathSteps
+pub mod Unique

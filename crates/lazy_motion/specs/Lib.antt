@@ -1,0 +1,4 @@
+pub mod Laws
+pub mod Motion
+pub mod Optimality
+pub mod Steps
