@@ -1,3 +1,4 @@
 mod SameNets
 mod Solving
 mod Amounts
+mod OneReach
