@@ -2,3 +2,4 @@ mod SameNets
 mod Solving
 mod Amounts
 mod OneReach
+mod Certified
