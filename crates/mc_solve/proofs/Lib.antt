@@ -1,3 +1,5 @@
 mod SameNets
 mod Solving
 mod Amounts
+mod OneReach
+mod Certified

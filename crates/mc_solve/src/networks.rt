@@ -7,7 +7,9 @@ ghost use Rattle.profile.specs.Counts.{HasSlots, IsUnreachedZero, total};
 ghost use Rattle.flow_net.specs.Network.{IsValid};
 ghost use Rattle.best_placement.specs.Laws.{IsBlockNetwork};
 ghost use Rattle.function_graphs.specs.Graphs.{graph_of, IsIn};
-ghost use Rattle.mc_solve.specs.Parts.{IsPartOf};
+ghost use Rattle.local_sets.specs.declared.flags.Reach.{Reach};
+ghost use Rattle.reduced_flows.specs.Flows.{IsReachOf};
+ghost use Rattle.mc_solve.specs.Parts.{IsPartOf, needed_nodes};
 
 use expressions::Table;
 use ir_types::syntax::Function;
@@ -47,6 +49,7 @@ pub fn networks_of(
     ensures nodes { IfOk result (λ nets. nets.full.net.nodes ≡ 2 + 2 * length points.now.blocks) }
     ensures valid { IfOk result (λ nets. IsValid nets.full.net) }
     ensures part { IfOk result (λ nets. IsPartOf nets.full.net nets.needed) }
+    ensures needed { IfOk result (λ nets. (reach : Reach) → IsReachOf function.now points.now table.now e reach → nets.needed.net.nodes ≡ needed_nodes reach points.now.blocks) }
     ensures valid_part { IfOk result (λ nets. IsValid nets.needed.net) }
 {
     reduced_flows_are_maximum();

@@ -1,8 +1,9 @@
-use Rattle.std.proofs.Common.{Bool, false, List, get_or, subst}
+use Rattle.std.proofs.Common.{Bool, false, List, get_or, subst, arith}
 use Rattle.best_placement.specs.Laws.{IsReadOffOn}
 use Rattle.function_graphs.specs.Graphs.{graph_of}
 use Rattle.mc_solve.specs.declared.Solved.{Solved}
 use Rattle.mc_solve.proofs.Solving.{HasGraph, some_graph, shown, on_each, best}
+use Rattle.mc_solve.proofs.Certified.{certifies}
 use Rattle.mc_solve.proofs.solve.Goals as goal
 
 pub returns-clause-solved : goal.returns-clause-solved
@@ -23,3 +24,18 @@ returns-clause-best g c =
     let n = c.in_ok-nets.ensures.network has.reached has.event has.is in
     best f c.args.points.now c.args.table.now c.args.e c.args.counts.now has.reached has.event has.is _ c.in_ok-nets.nets.full.net n
     (returns-clause-solved g c has.reached has.event c.in_ok-nets.nets.full.net has.is n)
+
+pub returns-clause-certified : goal.returns-clause-certified
+returns-clause-certified g c reached event net is n =
+    certifies c.args.function.now c.args.points.now c.args.counts.now reached event net (record { placement = c.in_ok-placement.placement; flow = c.in_ok-flow.flow; cut = c.in_ok-cut.cut })
+    (returns-clause-solved g c reached event net is n)
+
+-- the phases are those of the needed part
+pub returns-in_err-cut-clause-needed_phases : goal.returns-in_err-cut-clause-needed_phases
+returns-in_err-cut-clause-needed_phases g c reach told = let nodes = c.in_ok-nets.ensures.needed reach told in omega (arith, c.flow_of.ensures.phases, nodes)
+
+pub returns-in_err-placement-clause-needed_phases : goal.returns-in_err-placement-clause-needed_phases
+returns-in_err-placement-clause-needed_phases g c reach told = let nodes = c.in_ok-nets.ensures.needed reach told in omega (arith, c.flow_of.ensures.phases, nodes)
+
+pub returns-clause-needed_phases : goal.returns-clause-needed_phases
+returns-clause-needed_phases g c reach told = let nodes = c.in_ok-nets.ensures.needed reach told in omega (arith, c.flow_of.ensures.phases, nodes)

@@ -1,6 +1,7 @@
 use Rattle.reduced_flows.specs.Flows.{IsReachOf}
 use Rattle.mc_solve.proofs.Solving.{HasGraph, some_graph, node_count}
 use Rattle.mc_solve.proofs.Amounts.{arcs_rise, arcs_within, arcs_named, nodes_few}
+use Rattle.mc_solve.proofs.OneReach.{needed_count}
 use Rattle.mc_solve.proofs.networks.networks_of.Goals as goal
 
 pub network-requires-clause-sets : goal.network-requires-clause-sets
@@ -43,3 +44,16 @@ returns-clause-part c =
           c.reduced_flows_are_maximum.ensures f p t c.args.e c.args.counts.now has.reached has.event net reach c.in_ok-needed.needed small flow has.is
           (returns-clause-network c has.reached has.event has.is) tells is maximum spread;
     }
+
+pub returns-clause-needed : goal.returns-clause-needed
+returns-clause-needed c reach told =
+    let f = c.args.function.now in
+    let p = c.args.points.now in
+    let t = c.args.table.now in
+    let has : HasGraph f p t c.args.e = some_graph f p t c.args.e c.requires.defined c.requires.points c.requires.table c.requires.expression in
+    let tells : IsReachOf f p t c.args.e c.in_ok-reach.reach = record {
+      available = c.in_ok-reach.ensures.available t c.args.e c.requires.table c.requires.expression (rw c.deref-2.ensures.value c.in_ok-sets.ensures);
+      wanted = c.in_ok-reach.ensures.wanted t c.args.e c.requires.table c.requires.expression (rw c.deref-2.ensures.value c.in_ok-sets.ensures);
+    } in
+    needed_count f p t c.args.e c.args.counts.now has.reached has.event has.is c.in_ok-full.full.net c.in_ok-reach.reach reach c.in_ok-needed.needed
+    (returns-clause-nodes c) tells told c.in_ok-needed.ensures.reduced
