@@ -66,7 +66,7 @@ fn answer<H: Host, I: Source, O: Sink, E: Sink>(
 /// | 1 | `opt`: an unreached block is left | `mcpre: PROF: P5 Unreached function F block B` |
 /// | 1 | `opt`: the counts sum to 2^62 or more | `mcpre: PROF: P6 Total` |
 /// | 1 | `print`: the text has more than 2^26 bytes | `mcpre: IN: E17 Grown` |
-/// | 1 | `opt`: the new text has, or a function of the new module has more than it may | `mcpre: IN: E17 Grown` |
+/// | 1 | `opt`: the new text has, or a function of the new module has more than it may, or the best placements insert at 2^28 edges of a function or more | `mcpre: IN: E17 Grown` |
 /// | 1 | `run`: there is no defined `main` without parameters | `mcpre: IN: E18 NoMain` |
 /// | 2 | the words fit no row | `mcpre: usage` |
 /// | 3 | the host's count of reads that failed rose, or that of `input` | `mcpre: read fault: IN`, PROF, or `standard input` |
