@@ -38,7 +38,9 @@ fn reach_in(
 #[test]
 fn an_arm_is_wanted_and_available(rt: HostRuntime) -> Result<(), Fail> {
     let alloc = rt.alloc();
-    let module = read(alloc, arm())?;
+    let text = arm();
+    assert!(rt; text.len() <= 1 << 26);
+    let module = read(alloc, text)?;
     let function = function_at(&module, 1).ok_or("no function")?;
     assert!(rt; function.blocks.len() != 0);
     let found = reach_in(alloc, &module, function, 1)?.ok_or("no expression")?;
