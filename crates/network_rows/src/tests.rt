@@ -40,8 +40,7 @@ fn an_occurrence_behind_a_store_is_paid(rt: HostRuntime) -> Result<(), Fail> {
 
 #[test]
 fn what_is_needed_of_an_arm(rt: HostRuntime) -> Result<(), Fail> {
-    let profile =
-        b"mcpre-profile 1\nfunc 0 100\nblock 0 90 10\nblock 1 90\nblock 2 10\nblock 3\n";
+    let profile = b"mcpre-profile 1\nfunc 0 100\nblock 0 90 10\nblock 1 90\nblock 2 10\nblock 3\n";
     let found = networks_of(rt.alloc(), arm(), profile, 1)?.ok_or("no expression")?;
     assert_eq!(rt;
         found.needed.node_of.as_slice(),
