@@ -91,10 +91,10 @@ pub fn row_at(alloc: Global, source: &[u8], profile: &[u8], e: u32) -> Result<Op
 }
 
 /// How many expressions a function has, where `solve` gives the best placement of each; else how it doesn't.
-fn compare_in(
+fn compare_in<'a>(
     alloc: Global,
-    module: &Module<'_>,
-    function: &Function<'_>,
+    module: &Module<'a>,
+    function: &Function<'a>,
     counts: &FnCounts,
 ) -> Result<Result<u32, Difference>, NoMemory>
     requires defined { 0 < length function.now.blocks }
