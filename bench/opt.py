@@ -2,7 +2,7 @@
 
     python3 bench/opt.py [--program PROGRAM]
 
-PROGRAM is the built program, crates/mcpre/out/mcpre if none is given. Two families of modules are measured, each with a
+PROGRAM is the built program, crates/mcpre/out/mcpre if none is given. Three families of modules are measured, each with a
 profile that it accepts:
 
 - Rounds: a `main` of so many rounds of four blocks, in each of which an addition stands in one of two arms and again
@@ -10,6 +10,8 @@ profile that it accepts:
   these.
 - Expressions: a `main` of one block with so many expressions that differ in a constant, each computed twice. No bar is
   set on them: they are shown to see how the time grows with the number of expressions of one function.
+- Addends: 500 rounds with so many different addends, so that many blocks meet many expressions. No bar is set on them
+  either: each expression has a network of all blocks, so the time of a pair of block and expression is shown.
 
 On each also `opt-19 -S -passes=mem2reg,gvn` is run, by turns with the program, where it is installed. The bars:
 
@@ -49,6 +51,8 @@ CANNOT_MEASURE = 2
 # 5000 is there as the half of 10000.
 ROUNDS = [1000, 2000, 4000, 5000, 10000]
 EXPRESSIONS = [500, 1000, 2000, 4000]
+ADDENDS = [10, 20, 40, 80]
+ADDED_ROUNDS = 500
 CERTIFICATE = b'{"functions":[],"version":1}'
 HEAD = "declare i32 @getchar()\n\ndefine i32 @main() {\nentry:\n"
 
@@ -66,6 +70,8 @@ class Family(NamedTuple):
     unit: str
     sizes: list[int]
     make: Callable[[int], Made]
+    # How many pairs of a block and an expression there are.
+    pairs: Callable[[int], int]
     has_bars: bool
 
 
@@ -79,6 +85,7 @@ class Files(NamedTuple):
     certificate: Path
     # The bytes of the module's text.
     length: int
+    pairs: int
 
 
 class Run(NamedTuple):
@@ -112,9 +119,9 @@ class Measured(NamedTuple):
 # ---- modules
 
 
-def round_of(number: int, is_last: bool) -> str:
+def round_of(number: int, addends: int, is_last: bool) -> str:
     """Four blocks: an addition in one of two arms, and again where they meet."""
-    addend = number % 7
+    addend = number % addends
     following = "end" if is_last else f"s{number + 1}"
     return (
         f"s{number}:\n"
@@ -136,7 +143,7 @@ def round_of(number: int, is_last: bool) -> str:
     )
 
 
-def rounds(count: int) -> Made:
+def rounds(count: int, addends: int = 7) -> Made:
     """So many rounds one behind the other, over a byte of the input; of 100 runs some take the first arm."""
     begun = (
         f"{HEAD}"
@@ -146,7 +153,7 @@ def rounds(count: int) -> Made:
         "  store i32 %g, ptr %a\n"
         "  br label %s0\n"
     )
-    body = "".join(round_of(number, number == count - 1) for number in range(count))
+    body = "".join(round_of(number, addends, number == count - 1) for number in range(count))
     lines = ["mcpre-profile 1", "func 0 100", "block 0 100"]
     for number in range(count):
         left = 1 + 37 * number % 99
@@ -180,9 +187,21 @@ def expressions(count: int) -> Made:
     return Made(f"{begun}{body}  ret i32 0\n}}\n", "mcpre-profile 1\nfunc 0 100\nblock 0\n")
 
 
+def blocks_of(count: int) -> int:
+    """How many blocks so many rounds have."""
+    return 4 * count + 2
+
+
 FAMILIES = [
-    Family("rounds", ROUNDS, rounds, True),
-    Family("expressions", EXPRESSIONS, expressions, False),
+    Family("rounds", ROUNDS, rounds, lambda count: blocks_of(count) * 8, True),
+    Family("expressions", EXPRESSIONS, expressions, lambda count: count, False),
+    Family(
+        "addends",
+        ADDENDS,
+        lambda addends: rounds(ADDED_ROUNDS, addends),
+        lambda addends: blocks_of(ADDED_ROUNDS) * (addends + 1),
+        False,
+    ),
 ]
 
 
@@ -218,6 +237,7 @@ def make_files(folder: Path, family: Family, size: int) -> Files:
         folder / "optimised.ll",
         folder / "certificate.json",
         len(made.module.encode()),
+        family.pairs(size),
     )
     files.module.write_text(made.module)
     files.profile.write_text(made.profile)
@@ -275,7 +295,7 @@ def misses_bar(half: Measured | None, measured: Measured) -> bool:
 
 def print_head() -> None:
     print(
-        f"{'module':<20}{'bytes':>10}{'runs':>6}{'seconds':>9}{'by clock':>10}{'us/one':>9}"
+        f"{'module':<20}{'bytes':>10}{'runs':>6}{'seconds':>9}{'by clock':>10}{'us/one':>9}{'us/pair':>9}"
         f"{'peak/byte':>11}{'opt-19':>9}{'of it':>7}{'growth':>8}"
     )
 
@@ -287,7 +307,8 @@ def print_row(measured: Measured, size: int, half: Measured | None) -> None:
     growth_shown = "" if half is None else f"{growth_of(half, measured):.2f}"
     print(
         f"{measured.files.title:<20}{measured.files.length:>10}{len(measured.runs):>6}{run.processor_seconds:>9.3f}"
-        f"{run.clock_seconds:>10.3f}{run.processor_seconds / size * 1e6:>9.1f}{measured.peak_of_byte():>11.2f}"
+        f"{run.clock_seconds:>10.3f}{run.processor_seconds / size * 1e6:>9.1f}"
+        f"{run.processor_seconds / measured.files.pairs * 1e6:>9.2f}{measured.peak_of_byte():>11.2f}"
         f"{opt_shown:>9}{share_shown:>7}{growth_shown:>8}",
         flush=True,
     )

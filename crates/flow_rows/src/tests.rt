@@ -213,3 +213,35 @@ fn a_block_network(rt: HostRuntime) -> Result<(), Fail> {
     );
     Ok(())
 }
+
+/// The network of a sum in one of two arms and where they meet, whose arms were taken 90 and 10 times: it has one maximum
+/// flow, found by two phases at the most.
+#[test]
+fn an_arm_and_where_it_meets(rt: HostRuntime) -> Result<(), Fail> {
+    let alloc = rt.alloc();
+    let net = net_of(
+        alloc,
+        10,
+        &[
+            (0, 2, 104857600),
+            (0, 3, 104857600),
+            (3, 4, 94371840),
+            (3, 6, 10485760),
+            (4, 1, 94371840),
+            (5, 8, 94371840),
+            (6, 7, 10485760),
+            (7, 8, 10485760),
+            (8, 1, 104857600),
+        ],
+    )?;
+    let (flow, count) = phased(alloc, &net)?.ok_or("not valid")?;
+    assert!(rt; count <= 3);
+    assert_eq!(rt;
+        flow.amounts.as_slice(),
+        [
+            0, 104857600, 94371840, 10485760, 94371840, 0, 10485760, 10485760, 10485760
+        ]
+        .as_slice()
+    );
+    Ok(())
+}
