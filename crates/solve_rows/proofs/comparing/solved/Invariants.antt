@@ -1,4 +1,0 @@
-use Rattle.solve_rows.proofs.comparing.solved.Given as goal
-
-abbrev pub ghosts-solved_on : goal.ghosts-solved_on
-ghosts-solved_on a = record { name = a.blank.name; parts = a.blank.parts }
