@@ -1,5 +1,5 @@
 -- The placements of a function, as they are chosen one by one.
-use Rattle.std.proofs.Common.{◌≡◌, ⊎_elim, ℕ, ◌+◌, ◌<◌, ◌≤◌, ◌^◌, ◌++◌, ◌∷◌, [], zero, suc, Bool, true, false, List, length, Some, refl, sym, ◌∙◌, subst, arith}
+use Rattle.std.proofs.Common.{◌≡◌, ⊎_elim, ℕ, ◌+◌, ◌<◌, ◌≤◌, ◌^◌, ◌++◌, ◌∷◌, [], zero, suc, List, length, Some, refl, sym, ◌∙◌, subst, arith}
 use Rattle.std.specs.Prelude.{slice_get}
 use Rattle.std.proofs.lemmas.Bool.{cases_lt}
 use Rattle.std.proofs.lemmas.List.{length_push}
@@ -9,11 +9,10 @@ use Rattle.ir_types.specs.declared.syntax.Function.{Function}
 use Rattle.point_graph.specs.Numbers.{ArePoints}
 use Rattle.point_graph.specs.declared.graph.Points.{Points}
 use Rattle.expressions.specs.Kept.{Kept}
-use Rattle.expressions.specs.Tables.{IsTable, TrapsAsTold}
+use Rattle.expressions.specs.Tables.{IsTable}
 use Rattle.profile.specs.declared.counts.FnCounts.{FnCounts}
 use Rattle.placement.specs.declared.placements.Placement.{Placement}
-use Rattle.best_choice.specs.Best.{IsBestIn}
-use Rattle.optimise.specs.Choice.{IsChosen, IsLazilyPlaced, AreEachChosen, insertions, AreFew, IsCrowded}
+use Rattle.optimise.specs.Choice.{IsChosen, AreEachChosen, insertions, AreFew, IsCrowded}
 use Rattle.optimise.specs.Placing.{AreChosenSoFar}
 use Rattle.optimise.proofs.Growing.{get_last}
 
@@ -23,28 +22,7 @@ get_before [] y k x lt e = absurd (omega (arith, lt))
 get_before (z ∷ xs) y zero x lt e = e
 get_before (z ∷ xs) y (suc k) x lt e = get_before xs y k x (omega (arith, lt)) e
 
-not_both : (b : Bool) → b ≡ true → b ≡ false → ⊥
-not_both b t e = absurd (let h : true ≡ false = sym t ∙ e in cc)
-
 module _ (f : Function) (p : Points) (t : Kept) (counts : FnCounts) where
-  -- one that can trap has its lazy placement
-  pub lazy_chosen : (x : ℕ) (placement : Placement) → TrapsAsTold t.exprs x true → IsLazilyPlaced f p t x placement → IsChosen f p t counts x placement
-  lazy_chosen x placement told is = record {
-    expr = told.expr;
-    there = told.there;
-    best = λ safe. absurd (not_both _ (sym told.test) safe);
-    lazy = λ traps. is;
-  }
-
-  -- one that can't trap has its best placement
-  pub best_chosen : (x : ℕ) (placement : Placement) → TrapsAsTold t.exprs x false → IsBestIn f p t x counts placement → IsChosen f p t counts x placement
-  best_chosen x placement told is = record {
-    expr = told.expr;
-    there = told.there;
-    best = λ safe. is;
-    lazy = λ traps. absurd (not_both _ traps (sym told.test));
-  }
-
   pub none_chosen : AreChosenSoFar f p t counts 0 []
   none_chosen = record {
     count = refl;
