@@ -99,8 +99,7 @@ pub(crate) const BOTH_COUNTS: &str =
     "mcpre-profile 1\nfunc 0 100\nblock 0 0 100\nblock 1\nblock 2\n";
 
 /// Counts of runs that take both.
-pub(crate) const BOTH_EVEN: &str =
-    "mcpre-profile 1\nfunc 0 100\nblock 0 50 50\nblock 1\nblock 2\n";
+pub(crate) const BOTH_EVEN: &str = "mcpre-profile 1\nfunc 0 100\nblock 0 50 50\nblock 1\nblock 2\n";
 
 /// It is inserted on both slots.
 pub(crate) const BOTH_ON_SLOTS: &str = "declare i32 @getchar()
