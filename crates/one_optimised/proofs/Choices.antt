@@ -25,12 +25,10 @@ use Rattle.placement.specs.declared.placements.Placement.{Placement}
 use Rattle.placement.specs.Placements.{arcs_of}
 use Rattle.placement.specs.Costs.{edges_cost, points_cost}
 use Rattle.best_choice.specs.Best.{IsBestBy, IsBestIn, OneBestIn}
-use Rattle.best_choice.proofs.Ascending.{ascending_same}
-use Rattle.applied.specs.Motion.{Occurs}
-use Rattle.applied.specs.InBlocks.{IsFresh}
-use Rattle.block_placement.specs.WithinBlocks.{IsFreshAt, IsWithinBlocks}
+use Rattle.lazy_motion.specs.Laws.{OneLazyIn}
+use Rattle.lazy_motion.proofs.Alike.{Alike, lazy_too, placement_too, is_correct_too, safe_too, least_too, lives_too}
 use Rattle.transform.specs.declared.placed.Placed.{Placed}
-use Rattle.optimise.specs.Choice.{IsChosen, AreChosen}
+use Rattle.optimise.specs.Choice.{IsLazilyOn, IsLazilyPlaced, IsChosen, AreChosen}
 use Rattle.optimise.proofs.Sound.{MoveLaws}
 use Rattle.one_optimised.proofs.Lists.{same_bool, same_once, same_listed}
 use Rattle.one_optimised.proofs.Readings.{best_to}
@@ -115,26 +113,31 @@ module _ (f : Function) (p p' : Points) (t t' : Kept) (same : AreSame p p' t t')
     is_event = subst (λ m. IsEvent m f is.expr is.at event) same.modules is.is_event;
   }
 
-  fresh_there : (i : ℕ) → IsFreshAt f p t x i → IsFreshAt f p' t' x i
-  fresh_there i is = record {
-    expr = is.expr;
-    there = subst (λ l. slice_get l x ≡ Some is.expr) same.exprs is.there;
-    at = is.at;
-    is_point = subst (λ l. slice_get (map (point_of f) l) i ≡ Some is.at) same.points is.is_point;
-    occurs = subst (λ m. Occurs m f is.expr is.at) same.modules is.occurs;
-    fresh = subst (λ m. IsFresh m f is.expr is.at) same.modules is.fresh;
-  }
-
 module _ (f : Function) (p p' : Points) (t t' : Kept) (same : AreSame p p' t t') (x : ℕ) where
-  within_there : (placement : Placement) → IsWithinBlocks f p t x placement → IsWithinBlocks f p' t' x placement
-  within_there placement is = record {
-    nothing_inserted = is.nothing_inserted;
-    ascending = is.ascending;
-    kept_are = λ i. (
-      (λ kept. fresh_there f p p' t t' same x i ((is.kept_are i).0 kept)),
-      (λ fresh. (is.kept_are i).1 (fresh_there f p' p t' t (turned p p' t t' same) x i fresh)),
-    );
-  }
+  alike : Alike (IsEventOf f p t x) (IsEventOf f p' t' x)
+  alike =
+      let to = event_there f p p' t t' same x in
+      let back = event_there f p' p t' t (turned p p' t t' same) x in
+      record {
+        occurs = λ v. (to v _, back v _);
+        kills = λ v. (to v _, back v _);
+        bars = λ v. (to v _, back v _);
+      }
+
+  lazy_there : (placement : Placement) → IsLazilyPlaced f p t x placement → IsLazilyPlaced f p' t' x placement
+  lazy_there placement is =
+      let arcs = arcs_of p.edges in
+      let n = length p.points in
+      let Is = IsEventOf f p t x in
+      let Js = IsEventOf f p' t' x in
+      let here : IsLazilyOn arcs n Js placement = record {
+        lazy = record { placement = placement_too arcs n Is Js alike placement is.lazy.placement; lazy = lazy_too arcs Is Js alike placement is.lazy.lazy };
+        correct = is_correct_too arcs Is Js alike placement is.correct;
+        safe = safe_too arcs Is Js alike placement is.safe;
+        computes_least = least_too arcs Is Js alike placement is.computes_least;
+        lives_least = lives_too arcs n Is Js alike placement is.lives_least;
+      } in
+      subst (λ points. IsLazilyOn (arcs_of p'.edges) (length points) Js placement) same.points (subst (λ edges. IsLazilyOn (arcs_of edges) n Js placement) same.edges here)
 
   best_there : (counts : FnCounts) (placement : Placement) → IsBestIn f p t x counts placement → IsBestIn f p' t' x counts placement
   best_there counts placement best reached are =
@@ -148,29 +151,31 @@ module _ (f : Function) (p p' : Points) (t t' : Kept) (same : AreSame p p' t t')
     expr = is.expr;
     there = subst (λ l. slice_get l x ≡ Some is.expr) same.exprs is.there;
     best = λ safe. best_there counts placement (is.best safe);
-    within = λ traps. within_there placement (is.within traps);
+    lazy = λ traps. lazy_there placement (is.lazy traps);
   }
 
 -- ---- one choice
 
-module _ (f : Function) (p : Points) (t : Kept) (counts : FnCounts) (x : ℕ) (a b : Placement) where
-  one_within : IsWithinBlocks f p t x a → IsWithinBlocks f p t x b → a ≡ b
-  one_within is also =
-      let kept : a.kept ≡ b.kept = ascending_same a.kept b.kept is.ascending also.ascending
-      (λ v among. (also.kept_are v).1 ((is.kept_are v).0 among)) (λ v among. (is.kept_are v).1 ((also.kept_are v).0 among)) in
-      ap₂ (λ inserted kept. record { inserted = inserted; kept = kept }) (is.nothing_inserted ∙ sym also.nothing_inserted) kept
+-- there is one best placement and one lazy placement
+pub record ChoiceLaws : Type 0 where
+  pub best : OneBestIn
+  pub lazy : OneLazyIn
 
-  one_choice : OneBestIn → ArePoints f p → IsChosen f p t counts x a → IsChosen f p t counts x b → a ≡ b
-  one_choice one_best are is also = by (expr_traps is.expr) refl
+module _ (f : Function) (p : Points) (t : Kept) (counts : FnCounts) (x : ℕ) (a b : Placement) where
+  one_choice : ChoiceLaws → ArePoints f p → IsChosen f p t counts x a → IsChosen f p t counts x b → a ≡ b
+  one_choice choices are is also = by (expr_traps is.expr) refl
     where
       same : expr_traps is.expr ≡ expr_traps also.expr
       same = ap expr_traps (same_Some is.expr also.expr (sym is.there ∙ also.there))
 
       by : (q : Bool) → expr_traps is.expr ≡ q → a ≡ b
-      by true traps = one_within (is.within traps) (also.within (sym same ∙ traps))
-      by false safe = one_best f p t x counts are a b (is.best safe) (also.best (sym same ∙ safe))
+      by true traps =
+          let here = is.lazy traps in
+          let there = also.lazy (sym same ∙ traps) in
+          choices.lazy f p t x a b here.lazy there.lazy
+      by false safe = choices.best f p t x counts are a b (is.best safe) (also.best (sym same ∙ safe))
 
-module _ (laws : MoveLaws) (one_best : OneBestIn) (m : Program) (f : Function) (defined : 0 < length f.blocks) (counts : FnCounts) (q q' : Placed) (is : AreChosen m f counts q) (also : AreChosen m f counts q') where
+module _ (laws : MoveLaws) (choices : ChoiceLaws) (m : Program) (f : Function) (defined : 0 < length f.blocks) (counts : FnCounts) (q q' : Placed) (is : AreChosen m f counts q) (also : AreChosen m f counts q') where
   pub same_parts : AreSame q.points q'.points q.table q'.table
   same_parts = are_same laws f q.points q'.points q.table q'.table defined (is.of_module ∙ sym also.of_module) is.are_points also.are_points is.is_table also.is_table
 
@@ -180,4 +185,4 @@ module _ (laws : MoveLaws) (one_best : OneBestIn) (m : Program) (f : Function) (
       (is.placements.count ∙ ap (λ exprs. length exprs) same_parts.exprs ∙ sym also.placements.count)
       (λ x a b at there.
       let here = chosen_there f q.points q'.points q.table q'.table same_parts x counts a (is.placements.each x a at) in
-      one_choice f q'.points q'.table counts x a b one_best also.are_points here (also.placements.each x b there))
+      one_choice f q'.points q'.table counts x a b choices also.are_points here (also.placements.each x b there))

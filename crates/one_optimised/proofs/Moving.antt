@@ -17,7 +17,6 @@ use Rattle.profile.specs.declared.counts.FnCounts.{FnCounts}
 use Rattle.placement.specs.declared.placements.Placement.{Placement}
 use Rattle.placement.specs.Placements.{arcs_of, IsLiveAt}
 use Rattle.placed_moves.specs.Placed.{IsPoint, IsEdge, IsPlaced}
-use Rattle.best_choice.specs.Best.{OneBestIn}
 use Rattle.applied.specs.Motion.{OccursIn, Move}
 use Rattle.applied.specs.Applied.{Plan, IsFreshPrefix, is_stored}
 use Rattle.applied.proofs.Living.{reached_next}
@@ -28,7 +27,7 @@ use Rattle.optimise.specs.Choice.{AreChosen}
 use Rattle.optimise.proofs.Sound.{MoveLaws}
 use Rattle.one_optimised.proofs.Lists.{same_bool}
 use Rattle.one_optimised.proofs.Readings.{live_to}
-use Rattle.one_optimised.proofs.Choices.{AreSame, turned, event_there, same_parts, one_chosen}
+use Rattle.one_optimised.proofs.Choices.{ChoiceLaws, AreSame, turned, event_there, same_parts, one_chosen}
 use Rattle.one_optimised.proofs.Alike.{IsAlike, AreAlike}
 
 -- ---- two moves by one placement
@@ -224,7 +223,7 @@ module _ (laws : MoveLaws) (f : Function) (q q' : Placed) (same : AreSame q.poin
       (partner f q' q (turned q.points q'.points q.table q'.table same) (sym placements) other plan other_of plan_of)
       alike_moves
 
-pub plans_alike : MoveLaws → OneBestIn → (m : Program) (f : Function) → 0 < length f.blocks → (counts : FnCounts) (q q' : Placed) → AreChosen m f counts q → AreChosen m f counts q'
+pub plans_alike : MoveLaws → ChoiceLaws → (m : Program) (f : Function) → 0 < length f.blocks → (counts : FnCounts) (q q' : Placed) → AreChosen m f counts q → AreChosen m f counts q'
     → (plan other : Plan) → IsPlanOfPlaced plan f q → IsPlanOfPlaced other f q' → AreAlike plan other
-plans_alike laws one_best m f defined counts q q' is also plan other plan_of other_of =
-    plans_of laws f q q' (same_parts laws one_best m f defined counts q q' is also) (one_chosen laws one_best m f defined counts q q' is also) plan other plan_of other_of defined is.are_points is.is_table
+plans_alike laws choices m f defined counts q q' is also plan other plan_of other_of =
+    plans_of laws f q q' (same_parts laws choices m f defined counts q q' is also) (one_chosen laws choices m f defined counts q q' is also) plan other plan_of other_of defined is.are_points is.is_table

@@ -7,7 +7,6 @@ use Rattle.ir_types.specs.Program.{Program}
 use Rattle.ir_types.specs.declared.syntax.Function.{Function}
 use Rattle.ir_machine.specs.Same.{is_defined}
 use Rattle.profile.specs.declared.counts.FnCounts.{FnCounts}
-use Rattle.best_choice.specs.Best.{OneBestIn}
 use Rattle.applied.specs.Applied.{Plan, IsApplied}
 use Rattle.applied.specs.Built.{applied}
 use Rattle.transform.proofs.Alone.{defined_length}
@@ -17,7 +16,7 @@ use Rattle.optimise.specs.Choice.{AreChosen, IsPlacedBy, insertions}
 use Rattle.optimise.specs.Optimised.{HasTooMany, IsOptimised}
 use Rattle.optimise.proofs.Sound.{MoveLaws}
 use Rattle.one_optimised.proofs.Alike.{IsAlike, AreAlike, all_same}
-use Rattle.one_optimised.proofs.Choices.{one_chosen}
+use Rattle.one_optimised.proofs.Choices.{ChoiceLaws, one_chosen}
 use Rattle.one_optimised.proofs.Moving.{plans_alike}
 
 pub record BuiltLaws : Type 0 where
@@ -35,7 +34,7 @@ record IsPlanned (m : Program) (f : Function) (own : FnCounts) (plan : Plan) : T
   pub chosen : AreChosen m f own placed
   pub plan_of : IsPlanOfPlaced plan f placed
 
-module _ (laws : MoveLaws) (one_best : OneBestIn) (m : Program) (counts : List FnCounts) where
+module _ (laws : MoveLaws) (choices : ChoiceLaws) (m : Program) (counts : List FnCounts) where
   chosen_at : (one : Program) (is : IsOptimised m counts one) (k : ℕ) (f : Function) → slice_get m.functions k ≡ Some f → is_defined f.blocks ≡ true → (own : FnCounts) → slice_get counts (defined_before m.functions k) ≡ Some own
       → (placed : Placed) × (slice_get is.placed (defined_before m.functions k) ≡ Some placed) × IsPlacedBy m f own placed
   chosen_at one is k f there defined own counted =
@@ -59,7 +58,7 @@ module _ (laws : MoveLaws) (one_best : OneBestIn) (m : Program) (counts : List F
           let has = is.are_chosen.each k f there defined in
           let here = planned one is k f there defined has.own has.counted in
           let here' = planned other also k f there defined has.own has.counted in
-          plans_alike laws one_best m f (defined_length f defined) has.own here.placed here'.placed here.chosen here'.chosen (is.transformed.plans k) (also.transformed.plans k) here.plan_of here'.plan_of
+          plans_alike laws choices m f (defined_length f defined) has.own here.placed here'.placed here.chosen here'.chosen (is.transformed.plans k) (also.transformed.plans k) here.plan_of here'.plan_of
       by false declared = none_alike (is.transformed.plans k) (also.transformed.plans k) (is.transformed.are_plans.declared k f there declared) (also.transformed.are_plans.declared k f there declared)
 
   pub one_module : BuiltLaws → (one other : Program) → IsOptimised m counts one → IsOptimised m counts other → one ≡ other
@@ -78,5 +77,5 @@ module _ (laws : MoveLaws) (one_best : OneBestIn) (m : Program) (counts : List F
   pub not_both : (one : Program) → IsOptimised m counts one → ¬ (HasTooMany m counts)
   not_both one is many =
       let has = chosen_at one is many.number many.function many.there many.defined many.own many.counted in
-      let same = one_chosen laws one_best m many.function (defined_length many.function many.defined) many.own has.0 many.crowded.placed has.2.chosen many.crowded.chosen in
+      let same = one_chosen laws choices m many.function (defined_length many.function many.defined) many.own has.0 many.crowded.placed has.2.chosen many.crowded.chosen in
       absurd (omega (arith, has.2.few, many.crowded.many, ap insertions same))

@@ -6,8 +6,9 @@ ghost use Rattle.ir_types.specs.Program.{Program};
 ghost use Rattle.profile.specs.declared.counts.FnCounts.{FnCounts};
 ghost use Rattle.optimise.specs.Optimised.{HasTooMany, IsOptimised};
 
-use applied::{applied_stands, block_moves_are_moves};
+use applied::applied_stands;
 use best_choice::one_best_in;
+use lazy_motion::one_lazy;
 use placed_moves::{placed_is_move, placed_is_told};
 use point_numbers::points_are_told;
 
@@ -17,8 +18,8 @@ pub fn one_optimised()
     ensures not_both { (m : Program) (counts : List FnCounts) (one : Program) → IsOptimised m counts one → ¬ (HasTooMany m counts) }
 {
     applied_stands();
-    block_moves_are_moves();
     one_best_in();
+    one_lazy();
     placed_is_move();
     placed_is_told();
     points_are_told();

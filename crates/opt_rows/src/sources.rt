@@ -433,6 +433,78 @@ join:
 }
 ";
 
+/// It is inevitable behind both arms, so it is kept in that arm and inserted in the other.
+pub(crate) const QUOTIENT_DONE: &str = "declare i32 @getchar()
+
+define i32 @main() {
+entry:
+  %a = alloca i32
+  %b = alloca i32
+  %s = alloca i32
+  %pre.1 = alloca i32
+  %g = call i32 @getchar()
+  store i32 %g, ptr %a
+  %h = call i32 @getchar()
+  store i32 %h, ptr %b
+  %g1 = load i32, ptr %a
+  %c = icmp eq i32 %g1, 65
+  br i1 %c, label %left, label %right
+left:
+  %x1 = load i32, ptr %a
+  %x2 = load i32, ptr %b
+  %x = sdiv i32 %x1, %x2
+  store i32 %x, ptr %pre.1
+  store i32 %x, ptr %s
+  br label %join
+right:
+  %pre.1.17.0 = load i32, ptr %a
+  %pre.1.17.1 = load i32, ptr %b
+  %pre.1.17 = sdiv i32 %pre.1.17.0, %pre.1.17.1
+  store i32 %pre.1.17, ptr %pre.1
+  br label %join
+join:
+  %y1 = load i32, ptr %a
+  %y2 = load i32, ptr %b
+  %y = load i32, ptr %pre.1
+  ret i32 %y
+}
+";
+
+/// A division behind a loop and behind what is shown, before which it isn't inevitable.
+pub(crate) const SHOWN: &str = "declare i32 @getchar()
+
+declare i32 @putchar(i32)
+
+define i32 @main() {
+entry:
+  %a = alloca i32
+  %b = alloca i32
+  %i = alloca i32
+  %g = call i32 @getchar()
+  store i32 %g, ptr %a
+  %h = call i32 @getchar()
+  store i32 %h, ptr %b
+  store i32 3, ptr %i
+  br label %loop
+loop:
+  %i1 = load i32, ptr %i
+  %j = sub i32 %i1, 1
+  store i32 %j, ptr %i
+  %c = icmp eq i32 %j, 0
+  br i1 %c, label %done, label %loop
+done:
+  %p = call i32 @putchar(i32 65)
+  %a1 = load i32, ptr %a
+  %b1 = load i32, ptr %b
+  %x = sdiv i32 %a1, %b1
+  ret i32 %x
+}
+";
+
+/// The loop is gone through three times.
+pub(crate) const SHOWN_COUNTS: &str =
+    "mcpre-profile 1\nfunc 0 1\nblock 0 1\nblock 1 1 2\nblock 2\n";
+
 /// A function of one block that is entered once.
 pub(crate) const ONCE: &str = "mcpre-profile 1\nfunc 0 1\nblock 0\n";
 

@@ -35,8 +35,15 @@ fn expressions_move_to_where_they_cost_least(rt: HostRuntime) -> Result<(), Fail
 }
 
 #[test]
-fn divisions_that_can_trap_stay_in_their_blocks(rt: HostRuntime) -> Result<(), Fail> {
-    expect_optimised(&rt, rt.alloc(), QUOTIENT, ARM_COUNTS, QUOTIENT)
+fn divisions_that_can_trap_move_where_they_are_inevitable(rt: HostRuntime) -> Result<(), Fail> {
+    let rows = [
+        (QUOTIENT, ARM_COUNTS, QUOTIENT_DONE),
+        (SHOWN, SHOWN_COUNTS, SHOWN),
+    ];
+    for (text, counts, wanted) in rows {
+        expect_optimised(&rt, rt.alloc(), text, counts, wanted)?;
+    }
+    Ok(())
 }
 
 #[test]

@@ -24,7 +24,7 @@ get_grown [] y k x e = absurd (none-some x e)
 get_grown (z ∷ xs) y zero x e = e
 get_grown (z ∷ xs) y (suc k) x e = get_grown xs y k x e
 
-get_last : {X : Type 0} (xs : List X) (y : X) → slice_get (xs ++ y ∷ []) (length xs) ≡ Some y
+pub get_last : {X : Type 0} (xs : List X) (y : X) → slice_get (xs ++ y ∷ []) (length xs) ≡ Some y
 get_last [] y = refl
 get_last (z ∷ xs) y = get_last xs y
 

@@ -4,23 +4,38 @@ use Rattle.ir_types.specs.Program.{Program}
 use Rattle.ir_types.specs.declared.syntax.Function.{Function}
 use Rattle.point_graph.specs.Numbers.{ArePoints}
 use Rattle.point_graph.specs.declared.graph.Points.{Points}
+use Rattle.expressions.specs.declared.syntax.Event.{Event}
 use Rattle.expressions.specs.declared.syntax.Expr.{Expr}
 use Rattle.expressions.specs.Expressions.{expr_traps}
 use Rattle.expressions.specs.Kept.{Kept}
-use Rattle.expressions.specs.Tables.{IsTable}
+use Rattle.expressions.specs.Tables.{IsEventOf, IsTable}
 use Rattle.profile.specs.declared.counts.FnCounts.{FnCounts}
 use Rattle.placement.specs.declared.placements.Placement.{Placement}
+use Rattle.placement.specs.Placements.{arcs_of, IsCorrect, IsSafe}
 use Rattle.best_choice.specs.Best.{IsBestIn}
-use Rattle.block_placement.specs.WithinBlocks.{IsWithinBlocks}
+use Rattle.lazy_motion.specs.Laws.{IsLazyOn}
+use Rattle.lazy_motion.specs.Optimality.{ComputesLeast, LivesLeast}
 use Rattle.transform.specs.declared.placed.Placed.{Placed}
 
--- an expression that can't trap has its best placement by the counts of the function, and one that can trap the placement
--- within blocks
+-- the lazy placement, with ascending lists: it is correct and safe, on each settled path no safe correct placement
+-- computes less, and each that computes as few is live wherever it is
+pub record IsLazilyOn (arcs : List (ℕ × ℕ)) (n : ℕ) (Is : ℕ → Event → Type 0) (placement : Placement) : Type 0 where
+  pub lazy : IsLazyOn arcs n Is placement
+  pub correct : IsCorrect arcs Is placement
+  pub safe : IsSafe arcs Is placement
+  pub computes_least : ComputesLeast arcs Is placement
+  pub lives_least : LivesLeast arcs n Is placement
+
+-- the lazy placement of expression x of a function
+abbrev pub IsLazilyPlaced : Function → Points → Kept → ℕ → Placement → Type 0
+IsLazilyPlaced f p t x placement = IsLazilyOn (arcs_of p.edges) (length p.points) (IsEventOf f p t x) placement
+
+-- an expression that can't trap has its best placement by the counts of the function, and one that can trap its lazy one
 pub record IsChosen (f : Function) (p : Points) (t : Kept) (counts : FnCounts) (x : ℕ) (placement : Placement) : Type 0 where
   pub expr : Expr
   pub there : slice_get t.exprs x ≡ Some expr
   pub best : expr_traps expr ≡ false → IsBestIn f p t x counts placement
-  pub within : expr_traps expr ≡ true → IsWithinBlocks f p t x placement
+  pub lazy : expr_traps expr ≡ true → IsLazilyPlaced f p t x placement
 
 -- one placement for each expression of the table, and each is the chosen one
 pub record AreEachChosen (f : Function) (p : Points) (t : Kept) (counts : FnCounts) (placements : List Placement) : Type 0 where

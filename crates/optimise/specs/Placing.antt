@@ -1,5 +1,5 @@
 -- What is placed so far.
-use Rattle.std.specs.Prelude.{◌≡◌, ◌<◌, ◌≤◌, ◌^◌, ℕ, true, List, Some, length, slice_get}
+use Rattle.std.specs.Prelude.{◌≡◌, ◌<◌, ◌^◌, ℕ, true, List, Some, length, slice_get}
 use Rattle.ir_types.specs.Program.{Program}
 use Rattle.ir_types.specs.declared.syntax.Function.{Function}
 use Rattle.ir_machine.specs.Same.{is_defined}
@@ -8,7 +8,6 @@ use Rattle.expressions.specs.Kept.{Kept}
 use Rattle.profile.specs.Counts.{HasSlots, IsUnreachedZero, total}
 use Rattle.profile.specs.declared.counts.FnCounts.{FnCounts}
 use Rattle.placement.specs.declared.placements.Placement.{Placement}
-use Rattle.block_placement.specs.WithinBlocks.{IsWithinBlocks}
 use Rattle.transform.specs.Transformed.{defined_before}
 use Rattle.transform.specs.declared.placed.Placed.{Placed}
 use Rattle.optimise.specs.Choice.{IsChosen, IsCrowded}
@@ -22,11 +21,10 @@ pub record AreGood (f : Function) (counts : FnCounts) : Type 0 where
   pub unreached : IsUnreachedZero f counts
   pub total : total counts < 2 ^ 62
 
--- the first n placements are chosen, and the others are those within blocks
+-- the placements of the first n expressions are chosen
 pub record AreChosenSoFar (f : Function) (p : Points) (t : Kept) (counts : FnCounts) (n : ℕ) (placements : List Placement) : Type 0 where
-  pub count : length placements ≡ length t.exprs
-  pub chosen : (x : ℕ) (placement : Placement) → x < n → slice_get placements x ≡ Some placement → IsChosen f p t counts x placement
-  pub rest : (x : ℕ) (placement : Placement) → n ≤ x → slice_get placements x ≡ Some placement → IsWithinBlocks f p t x placement
+  pub count : length placements ≡ n
+  pub each : (x : ℕ) (placement : Placement) → slice_get placements x ≡ Some placement → IsChosen f p t counts x placement
 
 -- why nothing is placed in a function
 abbrev pub IsUnplaced : Program → Function → FnCounts → OptimiseError → Type 0

@@ -5,15 +5,15 @@ ghost use Rattle.ir_types.specs.WellFormed.{IsFunctionIn};
 ghost use Rattle.point_graph.specs.Numbers.{ArePoints};
 ghost use Rattle.expressions.specs.Tables.{IsTable};
 ghost use Rattle.best_choice.specs.Best.{IsBestIn};
-ghost use Rattle.optimise.specs.Choice.{AreEachChosen, AreFew, IsPlacedBy};
+ghost use Rattle.optimise.specs.Choice.{AreEachChosen, AreFew, IsChosen, IsPlacedBy};
 ghost use Rattle.optimise.specs.Placing.{AreGood, IsUnplaced};
 
 use crate::error::OptimiseError;
-use block_placement::within_blocks;
 use expressions::{Table, table};
 use ir_types::items::Items;
 use ir_types::module::Module;
 use ir_types::syntax::Function;
+use lazy_motion::lazy;
 use max_flow::Steps;
 use mc_num::NoMemory;
 use mc_solve::solve;
@@ -72,8 +72,31 @@ fn best(
     best_counted::<Brand>(alloc, Blank::new(1), function, points, table, e, counts)
 }
 
-/// For each expression the placement that is chosen by the counts of the function: the best one if it can't trap, else
-/// the one within blocks.
+/// The placement that is chosen for an expression by the counts of its function: the best one if it can't trap, else the
+/// lazy one.
+fn choice(
+    alloc: Global,
+    function: &Function<'_>,
+    points: &Points,
+    table: &Table<'_, '_>,
+    e: u32,
+    counts: &FnCounts,
+) -> Result<Placement, NoMemory>
+    requires defined { 0 < length function.now.blocks }
+    requires points { ArePoints function.now points.now }
+    requires table { IsTable function.now points.now table.now }
+    requires expression { e < length table.now.exprs }
+    requires counts { AreGood function.now counts.now }
+    ensures { IfOk result (IsChosen function.now points.now table.now counts.now e) }
+{
+    if table.traps(e) {
+        lazy(alloc, function, points, table, e)
+    } else {
+        best(alloc, function, points, table, e, counts)
+    }
+}
+
+/// For each expression the placement that is chosen by the counts of the function.
 fn chosen(
     alloc: Global,
     function: &Function<'_>,
@@ -87,11 +110,9 @@ fn chosen(
     requires counts { AreGood function.now counts.now }
     ensures { IfOk result (λ placements. AreEachChosen function.now points.now table.now counts.now placements.items) }
 {
-    let mut placements = within_blocks(alloc, function, points, table)?;
+    let mut placements = Vec::new(alloc);
     for e in 0..table.len() {
-        if !table.traps(e) {
-            placements[e as usize] = best(alloc, function, points, table, e, counts)?;
-        }
+        placements.push(choice(alloc, function, points, table, e, counts)?)?;
     }
     Ok(placements)
 }

@@ -7,7 +7,6 @@ ghost use Rattle.optimise.specs.Placing.{ArePlacedSoFar};
 
 use crate::choosing::placed_in;
 use crate::error::OptimiseError;
-use applied::block_moves_are_moves;
 use ir_types::module::Module;
 use placed_moves::{placed_is_move, placed_is_told};
 use point_numbers::points_are_told;
@@ -37,8 +36,8 @@ fn all_placed<'m, 'a>(
 }
 
 /// The module in which each expression that can't trap is computed where it costs least by the counts of the profile,
-/// and each that can trap once in a block and once behind each kill; elsewhere they are read from a temporary. It does
-/// what the module does. `TooMany` where in some function this would insert at 2^28 edges or more, over all of its
+/// and each that can trap as late and as seldom as it can be where it is inevitable; elsewhere they are read from a
+/// temporary. It does what the module does. `TooMany` where in some function this would insert at 2^28 edges or more, over all of its
 /// expressions; `NoMemory` where an allocation was refused.
 pub fn optimise<'a>(
     alloc: Global,
@@ -50,7 +49,6 @@ pub fn optimise<'a>(
     ensures optimised { IfOk result (IsOptimised program.now profile.now.functions) }
     ensures unoptimised { IfErr result (IsUnoptimised program.now profile.now.functions) }
 {
-    block_moves_are_moves();
     placed_is_move();
     placed_is_told();
     points_are_told();

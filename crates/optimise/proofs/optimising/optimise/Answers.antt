@@ -9,7 +9,7 @@ apply-requires-clause-placed c =
     let m = c.args.program.now in
     let counts = c.args.profile.now.functions in
     let placed = c.in_ok-placed.placed.items in
-    let laws : MoveLaws = record { told = c.placed_is_told.ensures.told; occurs = c.placed_is_told.ensures.occurs; numbered = c.points_are_told.ensures; is_move = c.placed_is_move.ensures; block_moves = c.block_moves_are_moves.ensures } in
+    let laws : MoveLaws = record { told = c.placed_is_told.ensures.told; occurs = c.placed_is_told.ensures.occurs; numbered = c.points_are_told.ensures; is_move = c.placed_is_move.ensures } in
     let all : ArePlacedSoFar m counts (length m.functions) placed = rw c.as_slice.ensures at c.in_ok-placed.ensures.placed in
     rw c.deref.ensures.value (each_sound laws m counts placed (each_placed m counts placed all))
 
