@@ -10,7 +10,7 @@ use expressions::Table;
 use ir_types::syntax::Function;
 use max_flow::Steps;
 use mc_num::NoMemory;
-use mc_solve::{Solved, solve};
+use mc_solve::solve;
 use placement::{Placement, cost};
 use point_graph::Points;
 use profile::FnCounts;
@@ -23,8 +23,6 @@ use std::sync::ledger::{Blank, Ledger};
 pub enum Difference {
     /// There are too many places to look at all placements.
     Places,
-    /// The placement names no edge or point, or its numbers don't ascend.
-    Listed,
     Incorrect,
     /// A correct one costs less.
     Cost,
@@ -34,15 +32,15 @@ pub enum Difference {
     Missing,
 }
 
-/// What `solve` gives for an expression.
-pub fn solved(
+/// The placement that `solve` gives for an expression.
+fn solved(
     alloc: Global,
     function: &Function<'_>,
     points: &Points,
     table: &Table<'_, '_>,
     e: u32,
     counts: &FnCounts,
-) -> Result<Solved, NoMemory>
+) -> Result<Placement, NoMemory>
     requires defined { 0 < length function.now.blocks }
     requires points { ArePoints function.now points.now }
     requires table { IsTable function.now points.now table.now }
@@ -62,7 +60,7 @@ fn solved_on<L: Ledger>(
     table: &Table<'_, '_>,
     e: u32,
     counts: &FnCounts,
-) -> Result<Solved, NoMemory>
+) -> Result<Placement, NoMemory>
     requires name { blank.name ≡ L.name }
     requires parts { blank.parts ≡ L.parts }
     requires some { 0 < blank.parts }
@@ -75,7 +73,8 @@ fn solved_on<L: Ledger>(
     requires total { total counts.now < 2 ^ 62 }
 {
     let mut steps = Steps::<L>::new(blank);
-    solve(alloc, function, points, table, e, counts, &mut steps)
+    let solved = solve(alloc, function, points, table, e, counts, &mut steps)?;
+    Ok(solved.placement)
 }
 
 /// Whether the second list has each bit that the first has.
@@ -88,7 +87,20 @@ fn are_within(bits: &[bool], others: &[bool]) -> bool {
     true
 }
 
-/// How another placement shows that one isn't the best.
+/// How what another placement comes to shows that one isn't the best.
+fn shown(best: &Told, other: &Told) -> Option<Difference> {
+    if !other.is_correct {
+        None
+    } else if other.cost < best.cost {
+        Some(Difference::Cost)
+    } else if are_within(&best.points, &other.points) && are_within(&best.edges, &other.edges) {
+        None
+    } else {
+        Some(Difference::Lives)
+    }
+}
+
+/// The same of a placement, if it is one of the function.
 fn shown_by(
     alloc: Global,
     function: &Function<'_>,
@@ -106,19 +118,14 @@ fn shown_by(
     requires unreached { IsUnreachedZero function.now counts.now }
     requires total { total counts.now < 2 ^ 62 }
 {
-    if !is_placement(points, placement) || cost(function, points, counts, placement) > best.cost {
+    if !is_placement(points, placement) {
+        return Ok(None);
+    }
+    if cost(function, points, counts, placement) > best.cost {
         return Ok(None);
     }
     let other = tell(alloc, function, points, table, e, counts, placement)?;
-    Ok(if !other.is_correct {
-        None
-    } else if other.cost < best.cost {
-        Some(Difference::Cost)
-    } else if are_within(&best.points, &other.points) && are_within(&best.edges, &other.edges) {
-        None
-    } else {
-        Some(Difference::Lives)
-    })
+    Ok(shown(best, &other))
 }
 
 /// Whether two placements are the same.
@@ -145,7 +152,10 @@ fn compare_all(
     requires unreached { IsUnreachedZero function.now counts.now }
     requires total { total counts.now < 2 ^ 62 }
 {
-    let places = places_of(alloc, function, points, table, e)?;
+    if !best.is_correct {
+        return Ok(Some(Difference::Incorrect));
+    }
+    let places = places_of(alloc, points, table, e)?;
     let Some(sets) = places.sets() else {
         return Ok(Some(Difference::Places));
     };
@@ -165,15 +175,23 @@ fn compare_all(
     })
 }
 
-/// How the placement of `solve` isn't the best one, if it isn't.
-pub fn compare(
+/// The placement that `solve` gives for an expression, what it costs, and how it isn't the best one, if it isn't.
+#[derive(Drop)]
+pub struct Row {
+    pub placement: Placement,
+    pub cost: u128,
+    pub difference: Option<Difference>,
+}
+
+/// The row of an expression; `None` where what `solve` gives is no placement of the function.
+pub fn row(
     alloc: Global,
     function: &Function<'_>,
     points: &Points,
     table: &Table<'_, '_>,
     e: u32,
     counts: &FnCounts,
-) -> Result<Option<Difference>, NoMemory>
+) -> Result<Option<Row>, NoMemory>
     requires defined { 0 < length function.now.blocks }
     requires points { ArePoints function.now points.now }
     requires table { IsTable function.now points.now table.now }
@@ -182,13 +200,15 @@ pub fn compare(
     requires unreached { IsUnreachedZero function.now counts.now }
     requires total { total counts.now < 2 ^ 62 }
 {
-    let found = solved(alloc, function, points, table, e, counts)?.placement;
-    if !is_placement(points, &found) {
-        return Ok(Some(Difference::Listed));
+    let placement = solved(alloc, function, points, table, e, counts)?;
+    if !is_placement(points, &placement) {
+        return Ok(None);
     }
-    let best = tell(alloc, function, points, table, e, counts, &found)?;
-    if !best.is_correct {
-        return Ok(Some(Difference::Incorrect));
-    }
-    compare_all(alloc, function, points, table, e, counts, &found, &best)
+    let best = tell(alloc, function, points, table, e, counts, &placement)?;
+    let difference = compare_all(alloc, function, points, table, e, counts, &placement, &best)?;
+    Ok(Some(Row {
+        placement,
+        cost: best.cost,
+        difference,
+    }))
 }

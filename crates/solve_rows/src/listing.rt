@@ -1,13 +1,10 @@
 //! All placements of an expression.
-ghost use Rattle.std.specs.Prelude.{◌<◌, ◌^◌, length};
-ghost use Rattle.expressions.specs.Tables.{IsTable};
 
-use expressions::{Event, Table, event};
+use expressions::Table;
 use ir_types::items::Items;
-use ir_types::syntax::Function;
 use mc_num::NoMemory;
 use placement::Placement;
-use point_graph::Points;
+use point_graph::{Edge, Points};
 use std::alloc::Global;
 
 /// The most edges and occurrences of which all sets are looked at.
@@ -20,30 +17,41 @@ pub struct Places {
     pub occurrences: Vec<u32>,
 }
 
+/// The numbers of the edges.
+fn edges_of(alloc: Global, edges: &[Edge]) -> Result<Vec<u32>, NoMemory> {
+    let mut numbers = Vec::new(alloc);
+    let mut number: u32 = 0;
+    for _ in edges {
+        numbers.push(number)?;
+        number = number.saturating_add(1);
+    }
+    Ok(numbers)
+}
+
+/// The numbers of the points where the expression occurs.
+fn occurrences_of(alloc: Global, occurring: &[Option<u32>], e: u32) -> Result<Vec<u32>, NoMemory> {
+    let mut numbers = Vec::new(alloc);
+    let mut number: u32 = 0;
+    for there in occurring {
+        if *there == Some(e) {
+            numbers.push(number)?;
+        }
+        number = number.saturating_add(1);
+    }
+    Ok(numbers)
+}
+
 /// The places at which an expression may be inserted and kept.
 pub fn places_of(
     alloc: Global,
-    function: &Function<'_>,
     points: &Points,
     table: &Table<'_, '_>,
     e: u32,
-) -> Result<Places, NoMemory>
-    requires table { IsTable function.now points.now table.now }
-    requires expression { e < length table.now.exprs }
-    requires few { length points.now.points < 2 ^ 32 }
-    requires few_edges { length points.now.edges < 2 ^ 32 }
-{
-    let mut edges = Vec::new(alloc);
-    for edge in 0..points.edges.len() {
-        edges.push(edge as u32)?;
-    }
-    let mut occurrences = Vec::new(alloc);
-    for point in 0..points.points.len() {
-        if event(function, points, table, e, point as u32) == Event::Occurs {
-            occurrences.push(point as u32)?;
-        }
-    }
-    Ok(Places { edges, occurrences })
+) -> Result<Places, NoMemory> {
+    Ok(Places {
+        edges: edges_of(alloc, points.edges.as_slice())?,
+        occurrences: occurrences_of(alloc, table.occurring(), e)?,
+    })
 }
 
 /// Whether a place is in a set, which is given by the bits of a number.

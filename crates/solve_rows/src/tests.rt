@@ -1,6 +1,6 @@
 //! The placements that `solve` gives.
 
-use crate::reading::{compare_at, row_at};
+use crate::reading::row_of;
 use crate::sources::{
     again, arm, both, calling, changed, cold, crossing, entry, itself, join, looping, lost,
     parallel, turning,
@@ -63,7 +63,7 @@ fn placements(rt: HostRuntime) -> Result<(), Fail> {
         ),
     ];
     for (source, profile, e, inserted, kept, cost) in rows {
-        let row = row_at(rt.alloc(), source, profile, e)?.ok_or("no expression")?;
+        let row = row_of(rt.alloc(), source, profile, e)?.ok_or("no placement")?;
         assert_eq!(rt; row.placement.inserted.as_slice(), inserted, "of {e}");
         assert_eq!(rt; row.placement.kept.as_slice(), kept, "of {e}");
         assert_eq!(rt; row.cost, cost, "of {e}");
@@ -72,115 +72,92 @@ fn placements(rt: HostRuntime) -> Result<(), Fail> {
 }
 
 #[test]
-fn no_placement_is_better(rt: HostRuntime) -> Result<(), Fail> {
-    // Each function with its counts, and how many expressions it has.
-    let rows: [(&[u8], &[u8], u32); 22] = [
-        (again(), b"mcpre-profile 1\nfunc 0 1\nblock 0\n", 1),
-        (again(), b"mcpre-profile 1\nfunc 0 0\nblock 0\n", 1),
+fn no_placement_without_loops_is_better(rt: HostRuntime) -> Result<(), Fail> {
+    // Each function with its counts, and one of its expressions.
+    let rows: [(&str, &[u8], &[u8], u32); 8] = [
+        ("again", again(), b"mcpre-profile 1\nfunc 0 0\nblock 0\n", 0),
         (
+            "entry",
             entry(),
             b"mcpre-profile 1\nfunc 0 7\nblock 0 3 4\nblock 1\nblock 2\n",
-            1,
+            0,
         ),
         (
-            entry(),
-            b"mcpre-profile 1\nfunc 0 0\nblock 0 0 0\nblock 1\nblock 2\n",
-            1,
-        ),
-        (
+            "join",
             join(),
             b"mcpre-profile 1\nfunc 0 100\nblock 0 90 10\nblock 1 90\nblock 2 10\nblock 3\n",
-            1,
+            0,
         ),
         (
+            "join, left never",
             join(),
             b"mcpre-profile 1\nfunc 0 5\nblock 0 0 5\nblock 1 0\nblock 2 5\nblock 3\n",
-            1,
+            0,
         ),
         (
-            join(),
-            b"mcpre-profile 1\nfunc 0 5\nblock 0 5 0\nblock 1 5\nblock 2 0\nblock 3\n",
-            1,
-        ),
-        (
-            join(),
-            b"mcpre-profile 1\nfunc 0 2\nblock 0 1 1\nblock 1 1\nblock 2 1\nblock 3\n",
-            1,
-        ),
-        (
-            turning(),
-            b"mcpre-profile 1\nfunc 0 2\nblock 0 2\nblock 1 10 2\nblock 2 10\nblock 3\n",
-            1,
-        ),
-        (
-            turning(),
-            b"mcpre-profile 1\nfunc 0 2\nblock 0 2\nblock 1 1 2\nblock 2 1\nblock 3\n",
-            1,
-        ),
-        (
-            turning(),
-            b"mcpre-profile 1\nfunc 0 1\nblock 0 1\nblock 1 0 1\nblock 2 0\nblock 3\n",
-            1,
-        ),
-        (
+            "parallel",
             parallel(),
             b"mcpre-profile 1\nfunc 0 10\nblock 0 1 2 3 4\nblock 1 5\nblock 2\n",
-            1,
+            0,
         ),
         (
-            parallel(),
-            b"mcpre-profile 1\nfunc 0 5\nblock 0 0 0 5 0\nblock 1 5\nblock 2\n",
-            1,
-        ),
-        (
-            parallel(),
-            b"mcpre-profile 1\nfunc 0 0\nblock 0 0 0 0 0\nblock 1 0\nblock 2\n",
-            1,
-        ),
-        (
-            calling(),
-            b"mcpre-profile 1\nfunc 0 1\nblock 0 1\nblock 1 9 1\nblock 2 9\nblock 3\nfunc 1 9\nblock 0\n",
-            1,
-        ),
-        (
-            calling(),
-            b"mcpre-profile 1\nfunc 0 1\nblock 0 1\nblock 1 0 1\nblock 2 0\nblock 3\nfunc 1 3\nblock 0\n",
-            1,
-        ),
-        (
+            "lost, the sum",
             lost(),
             b"mcpre-profile 1\nfunc 0 3\nblock 0 3\nblock 1 0\nblock 2\n",
-            2,
+            0,
         ),
         (
+            "lost, the product",
+            lost(),
+            b"mcpre-profile 1\nfunc 0 3\nblock 0 3\nblock 1 0\nblock 2\n",
+            1,
+        ),
+        (
+            "changed",
             changed(),
             b"mcpre-profile 1\nfunc 0 8\nblock 0 5 3\nblock 1\nblock 2\n",
-            1,
-        ),
-        (
-            changed(),
-            b"mcpre-profile 1\nfunc 0 0\nblock 0 0 0\nblock 1\nblock 2\n",
-            1,
-        ),
-        (
-            crossing(),
-            b"mcpre-profile 1\nfunc 0 6\nblock 0 4 2\nblock 1 24\nblock 2 20 6\nblock 3\n",
-            1,
-        ),
-        (
-            crossing(),
-            b"mcpre-profile 1\nfunc 0 1\nblock 0 0 1\nblock 1 0\nblock 2 0 1\nblock 3\n",
-            1,
-        ),
-        (
-            itself(),
-            b"mcpre-profile 1\nfunc 0 3\nblock 0 3\nblock 1 7 3\nblock 2\n",
-            1,
+            0,
         ),
     ];
-    for (number, (source, profile, expressions)) in rows.into_iter().enumerate() {
-        let found = compare_at(rt.alloc(), source, profile)?;
-        assert_eq!(rt; found, Some(Ok(expressions)), "in row {number}");
+    for (name, source, profile, e) in rows {
+        let row = row_of(rt.alloc(), source, profile, e)?.ok_or("no placement")?;
+        assert_eq!(rt; row.difference, None, "of {name}");
+    }
+    Ok(())
+}
+
+#[test]
+fn no_placement_with_a_loop_is_better(rt: HostRuntime) -> Result<(), Fail> {
+    let rows: [(&str, &[u8], &[u8]); 5] = [
+        (
+            "turning",
+            turning(),
+            b"mcpre-profile 1\nfunc 0 2\nblock 0 2\nblock 1 10 2\nblock 2 10\nblock 3\n",
+        ),
+        (
+            "turning, never",
+            turning(),
+            b"mcpre-profile 1\nfunc 0 1\nblock 0 1\nblock 1 0 1\nblock 2 0\nblock 3\n",
+        ),
+        (
+            "calling",
+            calling(),
+            b"mcpre-profile 1\nfunc 0 1\nblock 0 1\nblock 1 9 1\nblock 2 9\nblock 3\nfunc 1 9\nblock 0\n",
+        ),
+        (
+            "crossing",
+            crossing(),
+            b"mcpre-profile 1\nfunc 0 6\nblock 0 4 2\nblock 1 24\nblock 2 20 6\nblock 3\n",
+        ),
+        (
+            "itself",
+            itself(),
+            b"mcpre-profile 1\nfunc 0 3\nblock 0 3\nblock 1 7 3\nblock 2\n",
+        ),
+    ];
+    for (name, source, profile) in rows {
+        let row = row_of(rt.alloc(), source, profile, 0)?.ok_or("no placement")?;
+        assert_eq!(rt; row.difference, None, "of {name}");
     }
     Ok(())
 }
