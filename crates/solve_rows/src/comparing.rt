@@ -184,7 +184,7 @@ pub struct Row {
 }
 
 /// The row of an expression; `None` where what `solve` gives is no placement of the function.
-pub fn row(
+pub fn compare(
     alloc: Global,
     function: &Function<'_>,
     points: &Points,

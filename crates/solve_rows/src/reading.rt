@@ -4,7 +4,7 @@ ghost use Rattle.ir_types.specs.Limits.{IsWithinLimits};
 ghost use Rattle.ir_types.specs.WellFormed.{IsFunctionIn};
 ghost use Rattle.profile.specs.Counts.{AreCounts, IsAccepted, total};
 
-use crate::comparing::{Row, row};
+use crate::comparing::{Row, compare};
 use expressions::table;
 use ir_reader::read;
 use ir_types::module::Module;
@@ -33,7 +33,7 @@ fn row_in(
     if e >= table.len() {
         return Ok(None);
     }
-    row(alloc, function, &points, &table, e, counts)
+    compare(alloc, function, &points, &table, e, counts)
 }
 
 fn row_in_first(
