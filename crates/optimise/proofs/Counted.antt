@@ -13,7 +13,7 @@ use Rattle.profile.specs.declared.counts.FnCounts.{FnCounts}
 use Rattle.profile.specs.Counts.{AreCounts, IsAccepted, total}
 use Rattle.profile.specs.Counts as counts
 use Rattle.transform.specs.Transformed.{defined_before}
-use Rattle.optimise.specs.Placing.{AreGood}
+use Rattle.optimise.specs.Placing.{AreCountsOf}
 
 -- what stands at the place n has R
 pub record IsAt (R : FnCounts → Type 0) (cs : List FnCounts) (n : ℕ) : Type 0 where
@@ -79,7 +79,7 @@ module _ (R : Function → FnCounts → Type 0) where
   are_placed (g ∷ gs) = one_more g gs (is_defined g.blocks) refl (are_placed gs)
 
 -- the counts of a function that has blocks are good
-pub own_counts : (m : Program) (cs : List FnCounts) → IsAccepted m cs → (k : ℕ) (f : Function) → slice_get m.functions k ≡ Some f → is_defined f.blocks ≡ true → IsAt (AreGood f) cs (defined_before m.functions k)
+pub own_counts : (m : Program) (cs : List FnCounts) → IsAccepted m cs → (k : ℕ) (f : Function) → slice_get m.functions k ≡ Some f → is_defined f.blocks ≡ true → IsAt (AreCountsOf f) cs (defined_before m.functions k)
 own_counts m cs accepted k f there d =
     let here = are_placed AreCounts m.functions cs accepted.functions k f there d in
     let n = defined_before m.functions k in

@@ -1,4 +1,5 @@
 mod Chosen
 pub mod Counted
 mod Growing
+mod Showing
 pub mod Sound

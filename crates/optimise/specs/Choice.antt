@@ -1,5 +1,5 @@
 -- Which placements are chosen for the expressions of a function.
-use Rattle.std.specs.Prelude.{◌≡◌, ◌<◌, ◌≤◌, ◌^◌, ℕ, true, false, List, Some, length, slice_get, sum_by}
+use Rattle.std.specs.Prelude.{◌≡◌, ◌<◌, ◌≤◌, ◌^◌, ℕ, true, false, List, Some, length, slice_get}
 use Rattle.ir_types.specs.Program.{Program}
 use Rattle.ir_types.specs.declared.syntax.Function.{Function}
 use Rattle.point_graph.specs.Numbers.{ArePoints}
@@ -15,6 +15,10 @@ use Rattle.placement.specs.Placements.{arcs_of, IsCorrect, IsSafe}
 use Rattle.best_choice.specs.Best.{IsBestIn}
 use Rattle.lazy_motion.specs.Laws.{IsLazyOn}
 use Rattle.lazy_motion.specs.Optimality.{ComputesLeast, LivesLeast}
+use Rattle.certificate.specs.Limits.{EntryIsWithin}
+use Rattle.certificate.specs.declared.types.Entry.{Entry}
+use Rattle.certified.specs.Entries.{CertifiesIn, IsGood}
+use Rattle.certified.specs.Certified.{AreFew, insertions}
 use Rattle.transform.specs.declared.placed.Placed.{Placed}
 
 -- the lazy placement, with ascending lists: it is correct and safe, on each settled path no safe correct placement
@@ -49,14 +53,6 @@ pub record AreChosen (m : Program) (f : Function) (counts : FnCounts) (q : Place
   pub is_table : IsTable f q.points q.table
   pub placements : AreEachChosen f q.points q.table counts q.placements
 
--- at how many edges something is inserted, over all of these placements
-abbrev pub insertions : List Placement → ℕ
-insertions placements = sum_by (λ placement. length placement.inserted) placements
-
--- the placements insert at fewer than 2^28 edges
-abbrev pub AreFew : List Placement → Type 0
-AreFew placements = insertions placements < 2 ^ 28
-
 -- what is chosen in the function inserts at so few edges that it can be applied
 pub record IsPlacedBy (m : Program) (f : Function) (counts : FnCounts) (q : Placed) : Type 0 where
   pub chosen : AreChosen m f counts q
@@ -67,3 +63,22 @@ pub record IsCrowded (m : Program) (f : Function) (counts : FnCounts) : Type 0 w
   pub placed : Placed
   pub chosen : AreChosen m f counts placed
   pub many : 2 ^ 28 ≤ insertions placed.placements
+
+-- ---- entries
+
+-- the best placement, with a flow and ranks that show it
+pub record IsBestEntry (f : Function) (p : Points) (t : Kept) (counts : FnCounts) (x : ℕ) (entry : Entry) : Type 0 where
+  pub best : IsBestIn f p t x counts entry.placement
+  pub certifies : CertifiesIn f p t counts x entry
+  pub within : EntryIsWithin entry
+
+-- the lazy placement
+pub record IsLazyEntry (f : Function) (p : Points) (t : Kept) (x : ℕ) (entry : Entry) : Type 0 where
+  pub lazy : IsLazilyPlaced f p t x entry.placement
+  pub within : EntryIsWithin entry
+
+-- the placement that is chosen, with what shows it
+pub record IsChosenEntry (f : Function) (p : Points) (t : Kept) (counts : FnCounts) (x : ℕ) (entry : Entry) : Type 0 where
+  pub chosen : IsChosen f p t counts x entry.placement
+  pub good : IsGood f p t counts x entry
+  pub within : EntryIsWithin entry

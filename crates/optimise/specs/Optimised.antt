@@ -6,6 +6,8 @@ use Rattle.ir_machine.specs.Same.{is_defined}
 use Rattle.profile.specs.declared.counts.FnCounts.{FnCounts}
 use Rattle.transform.specs.Transformed.{IsTransformed, defined_before}
 use Rattle.transform.specs.declared.placed.Placed.{Placed}
+use Rattle.certificate.specs.declared.types.Certificate.{Certificate}
+use Rattle.certified.specs.Certified.{EachGood}
 use Rattle.optimise.specs.Choice.{IsPlacedBy, IsCrowded}
 use Rattle.optimise.specs.declared.error.OptimiseError.{OptimiseError}
 use Rattle.optimise.specs.declared.error.OptimiseError.TheVariants.{TooMany, NoMemory}
@@ -27,6 +29,13 @@ pub record EachChosen (m : Program) (counts : List FnCounts) (placed : List Plac
 pub record IsOptimised (m : Program) (counts : List FnCounts) (m' : Program) : Type 0 where
   pub placed : List Placed
   pub are_chosen : EachChosen m counts placed
+  pub transformed : IsTransformed m placed m'
+
+-- m' is m with the placements applied that are chosen by these counts, and the certificate names them and shows that they are good
+pub record IsOptimisedBy (m : Program) (counts : List FnCounts) (certificate : Certificate) (m' : Program) : Type 0 where
+  pub placed : List Placed
+  pub are_chosen : EachChosen m counts placed
+  pub each_good : EachGood m counts certificate placed
   pub transformed : IsTransformed m placed m'
 
 -- in some function of m the placements that are chosen by its counts insert at 2^28 edges or more

@@ -6,4 +6,4 @@ pub mod error;
 mod optimising;
 
 pub use error::OptimiseError;
-pub use optimising::optimise;
+pub use optimising::{Optimised, optimise};
