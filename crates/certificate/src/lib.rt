@@ -10,7 +10,7 @@ mod read;
 pub mod types;
 mod write;
 
-pub use laws::text_holds_its_certificate;
+pub use laws::{one_answer, text_holds_its_certificate};
 pub use path::{CertError, CertKey, CertPath};
 pub use read::from_json;
 pub use types::{Certificate, Entry};

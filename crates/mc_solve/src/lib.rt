@@ -11,13 +11,12 @@ ghost use Rattle.expressions.specs.Tables.{IsTable};
 ghost use Rattle.profile.specs.Counts.{HasSlots, IsUnreachedZero, total};
 ghost use Rattle.flow_net.specs.declared.Net.{Net};
 ghost use Rattle.best_choice.specs.Best.{IsBestIn};
-ghost use Rattle.latest_cut.specs.Cut.{rank_of};
-ghost use Rattle.best_placement.specs.Laws.{Certifies, IsBlockNetwork};
+ghost use Rattle.best_placement.specs.Laws.{IsBlockNetwork};
 ghost use Rattle.function_graphs.specs.Graphs.{graph_of, IsIn};
 ghost use Rattle.local_sets.specs.declared.flags.Reach.{Reach};
 ghost use Rattle.reduced_flows.specs.Flows.{IsReachOf};
 ghost use Rattle.mc_solve.specs.Parts.{needed_nodes};
-ghost use Rattle.mc_solve.specs.Solved.{IsSolved};
+ghost use Rattle.mc_solve.specs.Solved.{IsShown, IsSolved};
 
 use crate::flows::flow_of;
 use crate::networks::networks_of;
@@ -69,8 +68,7 @@ pub fn solve<L: Ledger>(
     ensures best { IfOk result (λ s. IsBestIn function.now points.now table.now e counts.now s.placement) }
     ensures solved { IfOk result (λ s. (reached : ℕ → Bool) (event : ℕ → Event) (net : Net) → IsIn function.now points.now table.now e reached event
         → IsBlockNetwork (graph_of function.now points.now counts.now reached event) net → IsSolved function.now points.now counts.now reached event net s) }
-    ensures certified { IfOk result (λ s. (reached : ℕ → Bool) (event : ℕ → Event) (net : Net) → IsIn function.now points.now table.now e reached event
-        → IsBlockNetwork (graph_of function.now points.now counts.now reached event) net → Certifies (graph_of function.now points.now counts.now reached event) net s.flow (rank_of s.cut) s.placement) }
+    ensures shown { IfOk result (IsShown function.now points.now table.now e counts.now) }
     ensures phases { steps.new ≤ steps.old + (2 + 2 * length points.now.blocks) }
     ensures needed_phases { (reach : Reach) → IsReachOf function.now points.now table.now e reach → steps.new ≤ steps.old + needed_nodes reach points.now.blocks }
 {

@@ -5,12 +5,12 @@ use Rattle.mc_host.specs.Host.{HostState, OnlyReads}
 use Rattle.ir_types.specs.Program.{Program}
 use Rattle.ir_printer.specs.Text.{text_of}
 use Rattle.ir_reader.specs.Reading.{Reads, HasOneAnswer}
-use Rattle.top_call.specs.declared.ending.Problem.{Problem}
-use Rattle.top_call.specs.declared.ending.Problem.TheVariants.{TooLong, Text, Grown, NoMain, LongProfile, BadProfile}
-use Rattle.top_call.specs.declared.ending.Done.TheVariants.{Written, Returned}
-use Rattle.top_call.specs.declared.ending.Stop.{Stop}
-use Rattle.top_call.specs.declared.ending.Stop.TheVariants.{Usage, Refused, ReadFault, WriteFault, OutOfMemory, Trapped, StepLimit}
-use Rattle.top_call.specs.Ending.{Ending, status_of}
+use Rattle.call_lines.specs.declared.ending.Problem.{Problem}
+use Rattle.call_lines.specs.declared.ending.Problem.TheVariants.{TooLong, Text, Grown, NoMain, LongProfile, BadProfile, LongOutput, BadCertificate}
+use Rattle.call_lines.specs.declared.ending.Done.TheVariants.{Written, Checked, Returned}
+use Rattle.call_lines.specs.declared.ending.Stop.{Stop}
+use Rattle.call_lines.specs.declared.ending.Stop.TheVariants.{Usage, Refused, ReadFault, WriteFault, OutOfMemory, No, Trapped, StepLimit}
+use Rattle.call_lines.specs.Ending.{Ending, status_of}
 use Rattle.top_call.specs.Print.{ReadsAs, PrintsAs, HasProblem, PrintEnds}
 use Rattle.top_call.specs.Stops.{StopsReading}
 
@@ -22,6 +22,7 @@ read_stopped input output old new (Refused file problem) stops reads =
 read_stopped input output old new (ReadFault name) stops reads = (stops.0, reads.files, stops.1)
 read_stopped input output old new OutOfMemory stops reads = λ tells. inl (ap (λ (file : List ℕ → _). file output) reads.files)
 read_stopped input output old new Usage stops reads = absurd stops
+read_stopped input output old new (No reason) stops reads = absurd stops
 read_stopped input output old new (WriteFault name) stops reads = absurd stops
 read_stopped input output old new (Trapped trap) stops reads = absurd stops
 read_stopped input output old new (StepLimit steps) stops reads = absurd stops
@@ -56,6 +57,8 @@ module _ (one : (bytes : List ℕ) → HasOneAnswer bytes) (host : HostState) (i
   not_both text TooLong prints has = not_long prints.program prints.reads has
   not_both text (Text refusal excerpt) prints has = not_refused prints.program refusal excerpt prints.reads has
   not_both text NoMain prints has = absurd has
+  not_both text LongOutput prints has = absurd has
+  not_both text (BadCertificate path) prints has = absurd has
   not_both text LongProfile prints has = absurd has
   not_both text (BadProfile problem) prints has = absurd has
   not_both text Grown prints has =
@@ -68,11 +71,13 @@ module _ (one : (bytes : List ℕ) → HasOneAnswer bytes) (host : HostState) (i
       → (problem : Problem) → HasProblem host input problem → (status_of ending ≡ 1) ⊎ (status_of ending ≡ 3) ⊎ (status_of ending ≡ 5)
   print_not_done output new (Ok Written) ends tells problem refused = absurd (let done = ends tells in not_both done.0 problem done.1 refused)
   print_not_done output new (Ok (Returned value)) ends tells problem refused = absurd ends
+  print_not_done output new (Ok Checked) ends tells problem refused = absurd ends
   print_not_done output new (Err (Refused file told)) ends tells problem refused = inl refl
   print_not_done output new (Err (ReadFault name)) ends tells problem refused = inr (inl refl)
   print_not_done output new (Err (WriteFault name)) ends tells problem refused = absurd (let done = ends.2 tells in not_both done.0 problem done.1 refused)
   print_not_done output new (Err OutOfMemory) ends tells problem refused = inr (inr refl)
   print_not_done output new (Err Usage) ends tells problem refused = absurd ends
+  print_not_done output new (Err (No reason)) ends tells problem refused = absurd ends
   print_not_done output new (Err (Trapped trap)) ends tells problem refused = absurd ends
   print_not_done output new (Err (StepLimit steps)) ends tells problem refused = absurd ends
 
@@ -85,6 +90,7 @@ module _ (one : (bytes : List ℕ) → HasOneAnswer bytes) (host : HostState) (i
   print_complete output new (Err (WriteFault name)) ends tells text prints reads writes = absurd (writes ends.1)
   print_complete output new (Err OutOfMemory) ends tells text prints reads writes = inr refl
   print_complete output new (Err Usage) ends tells text prints reads writes = absurd ends
+  print_complete output new (Err (No reason)) ends tells text prints reads writes = absurd ends
   print_complete output new (Err (Trapped trap)) ends tells text prints reads writes = absurd ends
   print_complete output new (Err (StepLimit steps)) ends tells text prints reads writes = absurd ends
 
@@ -94,6 +100,8 @@ module _ (one : (bytes : List ℕ) → HasOneAnswer bytes) (host : HostState) (i
   refused_as_grown m reads TooLong has = absurd (not_long m reads has)
   refused_as_grown m reads (Text refusal excerpt) has = absurd (not_refused m refusal excerpt reads has)
   refused_as_grown m reads NoMain has = absurd has
+  refused_as_grown m reads LongOutput has = absurd has
+  refused_as_grown m reads (BadCertificate path) has = absurd has
   refused_as_grown m reads LongProfile has = absurd has
   refused_as_grown m reads (BadProfile problem) has = absurd has
 
@@ -106,5 +114,6 @@ module _ (one : (bytes : List ℕ) → HasOneAnswer bytes) (host : HostState) (i
   print_grown output new (Err (WriteFault name)) ends tells m is_read reads writes = absurd (writes ends.1)
   print_grown output new (Err OutOfMemory) ends tells m is_read reads writes = inr (inl refl)
   print_grown output new (Err Usage) ends tells m is_read reads writes = absurd ends
+  print_grown output new (Err (No reason)) ends tells m is_read reads writes = absurd ends
   print_grown output new (Err (Trapped trap)) ends tells m is_read reads writes = absurd ends
   print_grown output new (Err (StepLimit steps)) ends tells m is_read reads writes = absurd ends

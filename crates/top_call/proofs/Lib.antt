@@ -1,5 +1,6 @@
+mod CheckEndings
+mod CheckLemmas
 pub mod Endings
-pub mod Excerpts
 pub mod Limits
 pub mod OptEndings
 pub mod OptLemmas

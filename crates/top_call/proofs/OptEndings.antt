@@ -10,14 +10,14 @@ use Rattle.profile.specs.declared.counts.FnCounts.{FnCounts}
 use Rattle.profile.specs.declared.reading.ProfileError.{ProfileError}
 use Rattle.profile.specs.declared.reading.ProfileError.TheVariants as errors
 use Rattle.optimise.specs.Optimised.{HasTooMany, IsOptimised}
-use Rattle.top_call.specs.declared.ending.Problem.{Problem}
-use Rattle.top_call.specs.declared.ending.Problem.TheVariants.{TooLong, Text, Grown, NoMain, LongProfile, BadProfile}
-use Rattle.top_call.specs.declared.ending.ProfileProblem.{ProfileProblem}
-use Rattle.top_call.specs.declared.ending.Done.TheVariants.{Written, Returned}
-use Rattle.top_call.specs.declared.ending.Stop.TheVariants.{Usage, Refused, ReadFault, WriteFault, OutOfMemory, Trapped, StepLimit}
-use Rattle.top_call.specs.Ending.{Ending, status_of}
+use Rattle.call_lines.specs.declared.ending.Problem.{Problem}
+use Rattle.call_lines.specs.declared.ending.Problem.TheVariants.{TooLong, Text, Grown, NoMain, LongProfile, BadProfile, LongOutput, BadCertificate}
+use Rattle.call_lines.specs.declared.ending.ProfileProblem.{ProfileProblem}
+use Rattle.call_lines.specs.declared.ending.Done.TheVariants.{Written, Checked, Returned}
+use Rattle.call_lines.specs.declared.ending.Stop.TheVariants.{Usage, Refused, ReadFault, WriteFault, OutOfMemory, No, Trapped, StepLimit}
+use Rattle.call_lines.specs.Ending.{Ending, status_of}
 use Rattle.top_call.specs.Row.{OptFiles}
-use Rattle.top_call.specs.RefusedProfile.{problem_of}
+use Rattle.call_lines.specs.RefusedProfile.{problem_of}
 use Rattle.top_call.specs.Print.{ReadsAs, HasProblem}
 use Rattle.top_call.specs.Opt.{OptEnds, AreAccepted, AreOptimisable, HasBadProfile, HasCounts, HasOptProblem, HasFileProblem, HasGrown, KeepsRules, IsFit, IsGrown, IsOutput}
 use Rattle.top_call.proofs.Endings.{same_program, not_long, not_refused}
@@ -40,7 +40,7 @@ fit_not_grown m fit (inr above) = above fit.limits
 
 module _ (one : (bytes : List ℕ) → HasOneAnswer bytes) (one_profile : (m : Program) → IsWellFormed m → (bytes : List ℕ) → profile.HasOneAnswer m bytes)
     (files : OptFiles) (old : HostState) where
-  same_content : (name a b : List ℕ) → old.file name ≡ Some a → old.file name ≡ Some b → a ≡ b
+  pub same_content : (name a b : List ℕ) → old.file name ≡ Some a → old.file name ≡ Some b → a ≡ b
   same_content name a b e f = let g : Some a ≡ Some b = sym e ∙ f in cc
 
   -- a profile that says counts isn't too long
@@ -68,7 +68,7 @@ module _ (one : (bytes : List ℕ) → HasOneAnswer bytes) (one_profile : (m : P
       (one_profile program rules also.content).one_profile counts others (subst P same says.reads) also.reads
 
   -- what holds of the module and the counts of the files holds of them, however they were read
-  carried : (P : Program → List FnCounts → Type 0) (program other : Program) → IsWellFormed other → (x : AreAccepted files old program) (y : AreAccepted files old other) → P program x.counts → P other y.counts
+  pub carried : (P : Program → List FnCounts → Type 0) (program other : Program) → IsWellFormed other → (x : AreAccepted files old program) (y : AreAccepted files old other) → P program x.counts → P other y.counts
   carried P program other rules x y holds =
       let same = same_program one old files.input program other x.reads y.reads in
       let Says : Program → Type 0 = λ m. HasCounts old files.profile m x.counts in
@@ -77,7 +77,7 @@ module _ (one : (bytes : List ℕ) → HasOneAnswer bytes) (one_profile : (m : P
       subst (P other) counts (subst Holds same holds)
 
   -- files that are accepted have no problem
-  no_problem : (program : Program) → AreAccepted files old program → (problem : Problem) → KeepsRules files old problem → ¬ (HasFileProblem files old problem)
+  pub no_problem : (program : Program) → AreAccepted files old program → (problem : Problem) → KeepsRules files old problem → ¬ (HasFileProblem files old problem)
   no_problem program accepted TooLong rules has = not_long one old files.input program accepted.reads has
   no_problem program accepted (Text refusal excerpt) rules has = not_refused one old files.input program refusal excerpt accepted.reads has
   no_problem program accepted LongProfile rules has = not_long_profile program accepted.counts accepted.profile has.2
@@ -87,11 +87,15 @@ module _ (one : (bytes : List ℕ) → HasOneAnswer bytes) (one_profile : (m : P
       (same_program one old files.input has.0 program has.1 accepted.reads) accepted.profile has.2
   no_problem program accepted Grown rules has = absurd has
   no_problem program accepted NoMain rules has = absurd has
+  no_problem program accepted LongOutput rules has = absurd has
+  no_problem program accepted (BadCertificate path) rules has = absurd has
 
   -- where a module was made, the files have no problem
-  keeps_rules : (program : Program) → ReadsAs old files.input program → IsWellFormed program → (problem : Problem) → KeepsRules files old problem
+  pub keeps_rules : (program : Program) → ReadsAs old files.input program → IsWellFormed program → (problem : Problem) → KeepsRules files old problem
   keeps_rules program reads rules (BadProfile problem) = (program, reads, rules)
   keeps_rules program reads rules LongProfile = tt
+  keeps_rules program reads rules LongOutput = tt
+  keeps_rules program reads rules (BadCertificate path) = tt
   keeps_rules program reads rules TooLong = tt
   keeps_rules program reads rules (Text refusal excerpt) = tt
   keeps_rules program reads rules Grown = (program, reads, rules)
@@ -118,6 +122,8 @@ module _ (one : (bytes : List ℕ) → HasOneAnswer bytes) (one_profile : (m : P
   output_without_problem once program' output LongProfile has = file_without_problem program' output LongProfile has
   output_without_problem once program' output (BadProfile problem) has = file_without_problem program' output (BadProfile problem) has
   output_without_problem once program' output NoMain has = absurd has
+  output_without_problem once program' output LongOutput has = absurd has
+  output_without_problem once program' output (BadCertificate path) has = absurd has
 
   -- what is refused of accepted files is that the module is too large
   refused_as_grown : (program : Program) → AreAccepted files old program → (problem : Problem) → HasOptProblem files old problem → KeepsRules files old problem → HasGrown files old
@@ -125,6 +131,8 @@ module _ (one : (bytes : List ℕ) → HasOneAnswer bytes) (one_profile : (m : P
   refused_as_grown program accepted TooLong has rules = absurd (no_problem program accepted TooLong rules has)
   refused_as_grown program accepted (Text refusal excerpt) has rules = absurd (no_problem program accepted (Text refusal excerpt) rules has)
   refused_as_grown program accepted LongProfile has rules = absurd (no_problem program accepted LongProfile rules has)
+  refused_as_grown program accepted LongOutput has rules = absurd (no_problem program accepted LongOutput rules has)
+  refused_as_grown program accepted (BadCertificate path) has rules = absurd (no_problem program accepted (BadCertificate path) rules has)
   refused_as_grown program accepted (BadProfile problem) has rules = absurd (no_problem program accepted (BadProfile problem) rules has)
   refused_as_grown program accepted NoMain has rules = absurd has
 
@@ -147,17 +155,21 @@ module _ (one : (bytes : List ℕ) → HasOneAnswer bytes) (one_profile : (m : P
   optimisable_without_problem can LongProfile has rules = no_problem can.program can.accepted LongProfile rules has
   optimisable_without_problem can (BadProfile problem) has rules = no_problem can.program can.accepted (BadProfile problem) rules has
   optimisable_without_problem can NoMain has rules = absurd has
+  optimisable_without_problem can LongOutput has rules = absurd has
+  optimisable_without_problem can (BadCertificate path) has rules = absurd has
 
   pub opt_not_done : OneOptimised → (new : HostState) (ending : Ending) → OptEnds files old new ending → IsTrue old.tells
       → (problem : Problem) × HasOptProblem files old problem → (status_of ending ≡ 1) ⊎ (status_of ending ≡ 3) ⊎ (status_of ending ≡ 5)
   opt_not_done once new (Ok Written) ends tells has = absurd (let made = ends tells in output_without_problem once made.program' made.is_output has.0 has.1)
   opt_not_done once new (Ok (Returned value)) ends tells has = absurd ends
+  opt_not_done once new (Ok Checked) ends tells has = absurd ends
   opt_not_done once new (Err (Refused file told)) ends tells has = inl refl
   opt_not_done once new (Err (ReadFault name)) ends tells has = inr (inl refl)
   opt_not_done once new (Err (WriteFault name)) (rose, inl fault) tells has = absurd (let made = fault.2 tells in output_without_problem once made.0 made.1 has.0 has.1)
   opt_not_done once new (Err (WriteFault name)) (rose, inr fault) tells has = absurd (let made = fault.1 tells in output_without_problem once made.0 made.1 has.0 has.1)
   opt_not_done once new (Err OutOfMemory) ends tells has = inr (inr refl)
   opt_not_done once new (Err Usage) ends tells has = absurd ends
+  opt_not_done once new (Err (No reason)) ends tells has = absurd ends
   opt_not_done once new (Err (Trapped trap)) ends tells has = absurd ends
   opt_not_done once new (Err (StepLimit steps)) ends tells has = absurd ends
 
@@ -171,6 +183,7 @@ module _ (one : (bytes : List ℕ) → HasOneAnswer bytes) (one_profile : (m : P
   opt_grown new (Err (WriteFault name)) ends tells program accepted reads writes = absurd (writes ends.0)
   opt_grown new (Err OutOfMemory) ends tells program accepted reads writes = inr (inl refl)
   opt_grown new (Err Usage) ends tells program accepted reads writes = absurd ends
+  opt_grown new (Err (No reason)) ends tells program accepted reads writes = absurd ends
   opt_grown new (Err (Trapped trap)) ends tells program accepted reads writes = absurd ends
   opt_grown new (Err (StepLimit steps)) ends tells program accepted reads writes = absurd ends
 
@@ -183,5 +196,6 @@ module _ (one : (bytes : List ℕ) → HasOneAnswer bytes) (one_profile : (m : P
   opt_complete new (Err (WriteFault name)) ends tells can reads writes = absurd (writes ends.0)
   opt_complete new (Err OutOfMemory) ends tells can reads writes = inr refl
   opt_complete new (Err Usage) ends tells can reads writes = absurd ends
+  opt_complete new (Err (No reason)) ends tells can reads writes = absurd ends
   opt_complete new (Err (Trapped trap)) ends tells can reads writes = absurd ends
   opt_complete new (Err (StepLimit steps)) ends tells can reads writes = absurd ends

@@ -1,9 +1,9 @@
 -- How `opt` ends, by what stopped it.
-use Rattle.std.proofs.Common.{◌≡◌, ◌≤◌, ◌⊎◌, ℕ, List, length, Option, Some, Result, Ok, Err, IsTrue, inl, inr, sym, ap, subst, ◌∙◌, arith}
+use Rattle.std.proofs.Common.{◌≡◌, ◌≤◌, ◌⊎◌, ℕ, List, length, Option, Some, Ok, Err, IsTrue, inl, inr, refl, sym, ap, subst, ◌∙◌, arith}
 use Rattle.mc_host.specs.Faults.{Rose}
 use Rattle.mc_host.specs.Host.{HostState, OnlyReads, IsBeforeOrPart}
 use Rattle.mc_host.proofs.PutsLemmas.{rose_after}
-use Rattle.std.specs.Prelude.{All, IfOk}
+use Rattle.std.specs.Prelude.{All}
 use Rattle.ir_types.specs.Limits.{IsWithinLimits}
 use Rattle.ir_types.specs.Program.{Program}
 use Rattle.ir_types.specs.WellFormed.{IsWellFormed}
@@ -11,18 +11,23 @@ use Rattle.ir_types.specs.Same.{plain}
 use Rattle.ir_machine.specs.Same.{Same}
 use Rattle.ir_printer.specs.Text.{text_of}
 use Rattle.ir_reader.specs.Reading.{Reads, ReadsBack}
-use Rattle.optimise.specs.Optimised.{HasTooMany, IsOptimised}
+use Rattle.certificate.specs.declared.types.Certificate.{Certificate}
+use Rattle.certificate.specs.Holds.{Holds}
+use Rattle.certificate.specs.Text.{json}
+use Rattle.certified.specs.Certified.{AreAllBest, IsCertified}
+use Rattle.optimise.specs.Optimised.{HasTooMany, IsOptimised, IsOptimisedBy}
+use Rattle.profile.specs.Counts.{IsAccepted}
 use Rattle.profile.specs.Reading as profile
 use Rattle.profile.specs.declared.counts.FnCounts.{FnCounts}
-use Rattle.top_call.specs.declared.ending.Problem.{Problem}
-use Rattle.top_call.specs.declared.ending.Problem.TheVariants.{TooLong, Text, Grown, NoMain, LongProfile, BadProfile}
-use Rattle.top_call.specs.declared.ending.Done.TheVariants.{Written}
-use Rattle.top_call.specs.declared.ending.Stop.{Stop}
-use Rattle.top_call.specs.declared.ending.Stop.TheVariants.{Usage, Refused, ReadFault, WriteFault, OutOfMemory, Trapped, StepLimit}
+use Rattle.call_lines.specs.declared.ending.Problem.{Problem}
+use Rattle.call_lines.specs.declared.ending.Problem.TheVariants.{TooLong, Text, Grown, NoMain, LongProfile, BadProfile, LongOutput, BadCertificate}
+use Rattle.call_lines.specs.declared.ending.Done.TheVariants.{Written, Checked}
+use Rattle.call_lines.specs.declared.ending.Stop.{Stop}
+use Rattle.call_lines.specs.declared.ending.Stop.TheVariants.{Usage, Refused, ReadFault, WriteFault, OutOfMemory, No, Trapped, StepLimit}
 use Rattle.top_call.specs.Row.{OptFiles}
 use Rattle.top_call.specs.Print.{ReadsAs, HasProblem, text_limit}
-use Rattle.top_call.specs.Opt.{OptEnds, AreAccepted, HasGrown, HasOptProblem, IsGrown, KeepsRules, IsOutput, LeavesParts, IsOutputFault, IsCertificateFault, refused_file, certificate_text}
-use Rattle.top_call.specs.Stops.{StopsReading, StopsParsing, StopsCounting, StopsOptimising, StopsWritingBoth, IsOptimisedText}
+use Rattle.top_call.specs.Opt.{OptEnds, AreAccepted, HasGrown, HasOptProblem, IsGrown, KeepsRules, IsOutput, LeavesParts, IsOutputFault, IsCertificateFault, refused_file}
+use Rattle.top_call.specs.Stops.{StopsReading, StopsParsing, StopsCounting, StopsOptimising, StopsWritingBoth, AreOptimisedTexts}
 
 -- what only reads twice only reads
 pub reads_twice : (a b c : HostState) → OnlyReads a b → OnlyReads b c → OnlyReads a c
@@ -40,20 +45,27 @@ reads_twice a b c first second = record {
 told : (a b : HostState) → OnlyReads a b → IsTrue a.tells → IsTrue b.tells
 told a b reads tells = reads.rights.tells ∙ tells
 
--- the text of an optimised module that isn't too large
-pub text_made : {V E : Type 0} (items : V → List ℕ) (r : Result V E) (m : Program) (counts : List FnCounts) (m' : Program) → IsOptimised m counts m' → All IsWithinLimits m'.functions → ReadsBack m'
-    → (Same m m' → Same m (plain m'))
-    → IfOk r (λ t. items t ≡ text_of m') → IfOk r (λ t. length (items t) ≤ text_limit) → IfOk r (λ t. IsOptimisedText m counts (items t))
-text_made items (Ok t) m counts m' optimised limits back plain_same is short =
+-- the texts of an optimised module that isn't too large, and of its certificate
+pub texts_made : (m : Program) (counts : List FnCounts) (certificate : Certificate) (m' : Program) (text certificate_text : List ℕ) → IsOptimisedBy m counts certificate m' → IsAccepted m counts
+    → (IsCertified m counts certificate m' → AreAllBest m counts certificate) → Holds (json certificate) certificate → All IsWithinLimits m'.functions → ReadsBack m'
+    → (Same m m' → Same m (plain m')) → text ≡ text_of m' → length text ≤ text_limit → certificate_text ≡ json certificate → AreOptimisedTexts m counts text certificate_text
+texts_made m counts certificate m' text certificate_text is accepted best holds limits back plain_same is_text short is_json =
     let P : List ℕ → Type 0 = λ text. length text ≤ text_limit in
+    let certified : IsCertified m counts certificate m' = record { placed = is.placed; each_good = is.each_good; transformed = is.transformed } in
     record {
       program' = m';
-      optimised = optimised;
-      is_text = is;
-      fit = record { fits = subst P is short; limits = limits; back = back };
-      again = subst (Same m) (sym back.same) (plain_same optimised.transformed.same);
+      optimised = record { placed = is.placed; are_chosen = is.are_chosen; transformed = is.transformed };
+      certificate = certificate;
+      shown = record { optimised = is; yes = record { program' = m'; certified = certified; text = refl }; best = best certified; holds = holds };
+      is_text = is_text;
+      is_json = is_json;
+      fit = record { fits = subst P is_text short; limits = limits; back = back };
+      again = subst (Same m) (sym back.same) (plain_same is.transformed.same);
     }
-text_made items (Err e) m counts m' optimised limits back plain_same is short = tt
+
+-- an optimised module that is too large
+pub made_large : (m : Program) (counts : List FnCounts) (certificate : Certificate) (m' : Program) → IsOptimisedBy m counts certificate m' → IsGrown m' → (program' : Program) × IsOptimised m counts program' × IsGrown program'
+made_large m counts certificate m' is grown = (m', record { placed = is.placed; are_chosen = is.are_chosen; transformed = is.transformed }, grown)
 
 -- the module's file was not read
 pub read_stopped : (files : OptFiles) (old new : HostState) (stop : Stop) → StopsReading files.input TooLong old new stop → OnlyReads old new
@@ -65,6 +77,7 @@ read_stopped files old new (Refused file problem) stops reads =
 read_stopped files old new (ReadFault name) stops reads = (reads.files, stops.1, inl stops.0)
 read_stopped files old new OutOfMemory stops reads = λ tells. inl reads.files
 read_stopped files old new Usage stops reads = absurd stops
+read_stopped files old new (No reason) stops reads = absurd stops
 read_stopped files old new (WriteFault name) stops reads = absurd stops
 read_stopped files old new (Trapped trap) stops reads = absurd stops
 read_stopped files old new (StepLimit steps) stops reads = absurd stops
@@ -78,10 +91,13 @@ module _ (files : OptFiles) (before mid : HostState) (bytes : List ℕ)
       (stops.0, read.files, λ tells. ((bytes, holds tells, short, stops.1.0, stops.1.1), tt))
   parse_stopped (Refused file Grown) stops = absurd stops.1
   parse_stopped (Refused file NoMain) stops = absurd stops.1
+  parse_stopped (Refused file LongOutput) stops = absurd stops.1
+  parse_stopped (Refused file (BadCertificate path)) stops = absurd stops.1
   parse_stopped (Refused file LongProfile) stops = absurd stops.1
   parse_stopped (Refused file (BadProfile problem)) stops = absurd stops.1
   parse_stopped OutOfMemory stops = λ tells. inl read.files
   parse_stopped Usage stops = absurd stops
+  parse_stopped (No reason) stops = absurd stops
   parse_stopped (ReadFault name) stops = absurd stops
   parse_stopped (WriteFault name) stops = absurd stops
   parse_stopped (Trapped trap) stops = absurd stops
@@ -107,6 +123,7 @@ module _ (files : OptFiles) (before mid : HostState) (bytes : List ℕ)
         (both.files, rose_after before.read_faults mid.read_faults late.read_faults read.read_faults stops.1 again.read_faults, inr (stops.0, λ tells. (program, as_read tells)))
     profile_stopped OutOfMemory stops = λ tells. inl both.files
     profile_stopped Usage stops = absurd stops
+    profile_stopped (No reason) stops = absurd stops
     profile_stopped (WriteFault name) stops = absurd stops
     profile_stopped (Trapped trap) stops = absurd stops
     profile_stopped (StepLimit steps) stops = absurd stops
@@ -129,9 +146,12 @@ module _ (files : OptFiles) (before mid : HostState) (bytes : List ℕ)
       count_stopped (Refused file (Text refusal excerpt)) stops = absurd stops
       count_stopped (Refused file Grown) stops = absurd stops
       count_stopped (Refused file NoMain) stops = absurd stops
+      count_stopped (Refused file LongOutput) stops = absurd stops
+      count_stopped (Refused file (BadCertificate path)) stops = absurd stops
       count_stopped (Refused file LongProfile) stops = absurd stops
       count_stopped OutOfMemory stops = λ tells. inl both.files
       count_stopped Usage stops = absurd stops
+      count_stopped (No reason) stops = absurd stops
       count_stopped (ReadFault name) stops = absurd stops
       count_stopped (WriteFault name) stops = absurd stops
       count_stopped (Trapped trap) stops = absurd stops
@@ -157,15 +177,18 @@ module _ (files : OptFiles) (before mid : HostState) (bytes : List ℕ)
             subst P (sym stops.1) grown
         optimise_stopped OutOfMemory stops = λ tells. inl both.files
         optimise_stopped Usage stops = absurd stops
+        optimise_stopped (No reason) stops = absurd stops
         optimise_stopped (ReadFault name) stops = absurd stops
         optimise_stopped (WriteFault name) stops = absurd stops
         optimise_stopped (Trapped trap) stops = absurd stops
         optimise_stopped (StepLimit steps) stops = absurd stops
 
-        module _ (text : List ℕ) (made : IsOptimisedText program counts text) (new : HostState) where
+        module _ (text certificate_text : List ℕ) (made : AreOptimisedTexts program counts text certificate_text) (new : HostState) where
           output : IsTrue before.tells → IsOutput files before made.program'
           output tells = record {
             optimises = record { program = program; accepted = accepted tells; optimised = made.optimised };
+            certificate = made.certificate;
+            shown = made.shown;
             rules = rules;
             same = made.optimised.transformed.same;
             fit = made.fit;
@@ -179,7 +202,7 @@ module _ (files : OptFiles) (before mid : HostState) (bytes : List ℕ)
           part_left name bytes (inl same) = inl (same ∙ same_file name)
           part_left name bytes (inr part) = inr part
 
-          parts_left : LeavesParts files text late new → LeavesParts files text before new
+          parts_left : LeavesParts files text certificate_text late new → LeavesParts files text certificate_text before new
           parts_left (inl left) = inl (part_left files.output text left.0, left.1 ∙ same_file files.certificate)
           parts_left (inr left) = inr (left.0, part_left files.certificate certificate_text left.1)
 
@@ -200,20 +223,23 @@ module _ (files : OptFiles) (before mid : HostState) (bytes : List ℕ)
               )
           told_fault name (inr fault) =
               let P : List ℕ → Type 0 = λ text. new.file files.output ≡ Some text in
+              let Q : List ℕ → Type 0 = λ text. IsBeforeOrPart files.certificate text before new in
               inr (
                 fault.0,
                 λ tells.
                     let left = fault.1 (told before late both tells) in
-                    (made.program', output tells, subst P made.is_text left.0, part_left files.certificate certificate_text left.1),
+                    (made.program', output tells, subst P made.is_text left.0, subst Q made.is_json (part_left files.certificate certificate_text left.1)),
               )
 
           -- the files were not both written
-          pub write_stopped : (stop : Stop) → StopsWritingBoth files text late new stop → OptEnds files before new (Err stop)
+          pub write_stopped : (stop : Stop) → StopsWritingBoth files text certificate_text late new stop → OptEnds files before new (Err stop)
           write_stopped (WriteFault name) stops = (fault_left name.now stops.0, told_fault name.now stops.1)
           write_stopped OutOfMemory stops = λ tells.
-              let P : List ℕ → Type 0 = λ text. LeavesParts files text before new in
-              inr (made.program', output tells, subst P made.is_text (parts_left (stops (told before late both tells))))
+              let P : List ℕ → Type 0 = λ text. LeavesParts files text certificate_text before new in
+              let Q : List ℕ → Type 0 = λ json. LeavesParts files (text_of made.program') json before new in
+              inr (made.program', output tells, subst Q made.is_json (subst P made.is_text (parts_left (stops (told before late both tells)))))
           write_stopped Usage stops = absurd stops
+          write_stopped (No reason) stops = absurd stops
           write_stopped (Refused file problem) stops = absurd stops
           write_stopped (ReadFault name) stops = absurd stops
           write_stopped (Trapped trap) stops = absurd stops
@@ -226,5 +252,5 @@ module _ (files : OptFiles) (before mid : HostState) (bytes : List ℕ)
             program' = made.program';
             is_output = output tells;
             output = out (told before late both tells) ∙ ap (λ (text : List ℕ). Some text) made.is_text;
-            certificate = cert (told before late both tells);
+            certificate = cert (told before late both tells) ∙ ap (λ (text : List ℕ). Some text) made.is_json;
           }

@@ -2,7 +2,7 @@
 use Rattle.std.proofs.Common.{◌≡◌, ℕ, ◌+◌, ◌<◌, ◌≤◌, min, List, take, length, Some, IsTrue, sym, ◌∙◌, ap, arith}
 use Rattle.std.proofs.lemmas.List.{length-take, take_all}
 use Rattle.mc_host.specs.Host.{HostState, GivesFile}
-use Rattle.top_call.specs.declared.ending.Problem.TheVariants.{TooLong}
+use Rattle.call_lines.specs.declared.ending.Problem.TheVariants.{TooLong}
 use Rattle.top_call.specs.Print.{HasProblem, text_limit}
 
 -- more bytes than a text has, so the file is too long

@@ -5,13 +5,15 @@ use Rattle.ir_types.specs.Program.{Program}
 use Rattle.ir_types.specs.WellFormed.{IsWellFormed}
 use Rattle.ir_reader.specs.Reading.{HasOneAnswer}
 use Rattle.profile.specs.Reading as profile
-use Rattle.top_call.specs.declared.ending.Done.{Done}
-use Rattle.top_call.specs.declared.ending.Done.TheVariants.{Written, Returned}
-use Rattle.top_call.specs.declared.ending.Stop.TheVariants.{Usage, Refused, ReadFault, WriteFault, OutOfMemory, Trapped, StepLimit}
-use Rattle.top_call.specs.Ending.{Ending, status_of}
-use Rattle.top_call.specs.Row.{Row, Print, Run, Opt}
+use Rattle.call_lines.specs.declared.ending.Done.{Done}
+use Rattle.call_lines.specs.declared.ending.Done.TheVariants.{Written, Checked, Returned}
+use Rattle.call_lines.specs.declared.ending.Stop.TheVariants.{Usage, Refused, ReadFault, WriteFault, OutOfMemory, No, Trapped, StepLimit}
+use Rattle.call_lines.specs.Ending.{Ending, status_of}
+use Rattle.top_call.specs.Row.{Row, Print, Run, Opt, Check}
 use Rattle.top_call.specs.World.{World, AreStill}
-use Rattle.top_call.specs.Top.{Ends, IsAccepted, IsTrapped, IsAtLimit, IsDone, IsPartlyDone, HasReadFault, HasWriteFault, IsQuiet, HasMoved, IsRefused, AreRead, IsTooLarge}
+use Rattle.top_call.specs.Top.{Ends, IsAccepted, IsRowDenied, IsTrapped, IsAtLimit, IsDone, IsPartlyDone, HasReadFault, HasWriteFault, IsQuiet, HasMoved, IsRefused, AreRead, IsTooLarge}
+use Rattle.checker.specs.declared.verdict.Reason.{Reason}
+use Rattle.top_call.proofs.CheckEndings.{OneCertificate, check_not_done, check_complete, check_deny}
 use Rattle.top_call.proofs.Endings.{print_not_done, print_complete, print_grown}
 use Rattle.top_call.proofs.OptEndings.{OneOptimised, opt_not_done, opt_complete, opt_grown}
 use Rattle.top_call.proofs.RunEndings.{run_not_done, run_complete, run_traps, run_ends_nothing, run_trapped, run_limited, run_moved, run_still}
@@ -21,6 +23,7 @@ use Rattle.top_call.proofs.RunEndings.{run_not_done, run_complete, run_traps, ru
 trapped_at : (ending : Ending) → status_of ending ≡ 7 → (trap : Trap) × (ending ≡ Err (Trapped trap))
 trapped_at (Ok done) e = absurd (omega (arith, e))
 trapped_at (Err Usage) e = absurd (omega (arith, e))
+trapped_at (Err (No reason)) e = absurd (omega (arith, e))
 trapped_at (Err (Refused file problem)) e = absurd (omega (arith, e))
 trapped_at (Err (ReadFault name)) e = absurd (omega (arith, e))
 trapped_at (Err (WriteFault name)) e = absurd (omega (arith, e))
@@ -31,6 +34,7 @@ trapped_at (Err (StepLimit steps)) e = absurd (omega (arith, e))
 limited_at : (ending : Ending) → status_of ending ≡ 8 → (steps : ℕ) × (ending ≡ Err (StepLimit steps))
 limited_at (Ok done) e = absurd (omega (arith, e))
 limited_at (Err Usage) e = absurd (omega (arith, e))
+limited_at (Err (No reason)) e = absurd (omega (arith, e))
 limited_at (Err (Refused file problem)) e = absurd (omega (arith, e))
 limited_at (Err (ReadFault name)) e = absurd (omega (arith, e))
 limited_at (Err (WriteFault name)) e = absurd (omega (arith, e))
@@ -41,6 +45,7 @@ limited_at (Err (StepLimit steps)) e = (steps, refl)
 done_at : (ending : Ending) → status_of ending ≡ 0 → (done : Done) × (ending ≡ Ok done)
 done_at (Ok done) e = (done, refl)
 done_at (Err Usage) e = absurd (omega (arith, e))
+done_at (Err (No reason)) e = absurd (omega (arith, e))
 done_at (Err (Refused file problem)) e = absurd (omega (arith, e))
 done_at (Err (ReadFault name)) e = absurd (omega (arith, e))
 done_at (Err (WriteFault name)) e = absurd (omega (arith, e))
@@ -53,21 +58,23 @@ neither n out (inl e) = absurd (grind (arith, out, e))
 neither n out (inr e) = absurd (grind (arith, out, e))
 
 module _ (one : (bytes : List ℕ) → HasOneAnswer bytes) (old new : World) (ending : Ending) where
-  pub not_done : OneOptimised → (one_profile : (m : Program) → IsWellFormed m → (bytes : List ℕ) → profile.HasOneAnswer m bytes) → (row : Option Row) → Ends row old new ending → IsTrue old.host.tells → IsRefused row old.host
+  pub not_done : OneOptimised → OneCertificate → (one_profile : (m : Program) → IsWellFormed m → (bytes : List ℕ) → profile.HasOneAnswer m bytes) → (row : Option Row) → Ends row old new ending → IsTrue old.host.tells → IsRefused row old.host
       → (status_of ending ≡ 1) ⊎ (status_of ending ≡ 3) ⊎ (status_of ending ≡ 5)
-  not_done once one_profile None ends tells refused = absurd refused
-  not_done once one_profile (Some (Print input output)) ends tells refused = print_not_done one old.host input output new.host ending ends.0 tells refused.0 refused.1
-  not_done once one_profile (Some (Run limit input profile)) ends tells refused = run_not_done one limit input profile old new ending ends tells refused.0 refused.1
-  not_done once one_profile (Some (Opt files)) ends tells refused = opt_not_done one one_profile files old.host once new.host ending ends.0 tells refused
+  not_done once held one_profile None ends tells refused = absurd refused
+  not_done once held one_profile (Some (Print input output)) ends tells refused = print_not_done one old.host input output new.host ending ends.0 tells refused.0 refused.1
+  not_done once held one_profile (Some (Run limit input profile)) ends tells refused = run_not_done one limit input profile old new ending ends tells refused.0 refused.1
+  not_done once held one_profile (Some (Opt files)) ends tells refused = opt_not_done one one_profile files old.host once new.host ending ends.0 tells refused
+  not_done once held one_profile (Some (Check files)) ends tells refused = check_not_done one one_profile held files old.host new.host ending ends.0 tells refused
 
-  pub complete : (one_profile : (m : Program) → IsWellFormed m → (bytes : List ℕ) → profile.HasOneAnswer m bytes) → (row : Option Row) → Ends row old new ending → IsTrue old.host.tells → IsAccepted row old
+  pub complete : OneCertificate → (one_profile : (m : Program) → IsWellFormed m → (bytes : List ℕ) → profile.HasOneAnswer m bytes) → (row : Option Row) → Ends row old new ending → IsTrue old.host.tells → IsAccepted row old
       → ¬ (HasReadFault row old new) → ¬ (HasWriteFault row old new) → (status_of ending ≡ 0) ⊎ (status_of ending ≡ 5)
-  complete one_profile None ends tells accepted reads writes = absurd accepted
-  complete one_profile (Some (Print input output)) ends tells accepted reads writes =
+  complete held one_profile None ends tells accepted reads writes = absurd accepted
+  complete held one_profile (Some (Print input output)) ends tells accepted reads writes =
       print_complete one old.host input output new.host ending ends.0 tells accepted.0 accepted.1 reads writes
-  complete one_profile (Some (Run limit input profile)) ends tells accepted reads writes =
+  complete held one_profile (Some (Run limit input profile)) ends tells accepted reads writes =
       run_complete one limit input profile old new ending ends tells accepted.0 accepted.1 reads writes
-  complete one_profile (Some (Opt files)) ends tells accepted reads writes = opt_complete one one_profile files old.host new.host ending ends.0 tells accepted reads writes
+  complete held one_profile (Some (Opt files)) ends tells accepted reads writes = opt_complete one one_profile files old.host new.host ending ends.0 tells accepted reads writes
+  complete held one_profile (Some (Check files)) ends tells accepted reads writes = check_complete one one_profile held files old.host new.host ending ends.0 tells accepted reads
 
   pub grown : (one_profile : (m : Program) → IsWellFormed m → (bytes : List ℕ) → profile.HasOneAnswer m bytes) → (row : Option Row) → Ends row old new ending → IsTrue old.host.tells → AreRead row old
       → ¬ (HasReadFault row old new) → ¬ (HasWriteFault row old new) → (status_of ending ≡ 0) ⊎ (status_of ending ≡ 5) ⊎ ((status_of ending ≡ 1) × IsTooLarge row old)
@@ -77,12 +84,14 @@ module _ (one : (bytes : List ℕ) → HasOneAnswer bytes) (old new : World) (en
   grown one_profile (Some (Run limit input profile)) ends tells read reads writes = absurd read
   grown one_profile (Some (Opt files)) ends tells read reads writes =
       opt_grown one one_profile files old.host new.host ending ends.0 tells read.0 read.1 reads writes
+  grown one_profile (Some (Check files)) ends tells read reads writes = absurd read
 
   pub traps : (row : Option Row) → Ends row old new ending → IsTrue old.host.tells → IsTrue old.input.tells → IsTrapped row old
       → (status_of ending ≡ 7) ⊎ (status_of ending ≡ 3) ⊎ (status_of ending ≡ 4) ⊎ (status_of ending ≡ 5)
   traps None ends tells told trap = absurd trap
   traps (Some (Print input output)) ends tells told trap = absurd trap
   traps (Some (Opt files)) ends tells told trap = absurd trap
+  traps (Some (Check files)) ends tells told trap = absurd trap
   traps (Some (Run limit input profile)) ends tells told trap = run_traps one limit input profile old new ending ends tells told trap
 
   pub ends_nothing : (row : Option Row) → Ends row old new ending → IsTrue old.host.tells → IsTrue old.input.tells → IsAtLimit row old
@@ -90,18 +99,21 @@ module _ (one : (bytes : List ℕ) → HasOneAnswer bytes) (old new : World) (en
   ends_nothing None ends tells told stands = absurd stands
   ends_nothing (Some (Print input output)) ends tells told stands = absurd stands
   ends_nothing (Some (Opt files)) ends tells told stands = absurd stands
+  ends_nothing (Some (Check files)) ends tells told stands = absurd stands
   ends_nothing (Some (Run limit input profile)) ends tells told stands = run_ends_nothing one limit input profile old new ending ends tells told stands
 
   pub moved : (row : Option Row) → Ends row old new ending → IsTrue old.host.tells → HasMoved row old new
   moved None ends tells = record { input = ap (λ (w : World). w.input) ends.1; out = ap (λ (w : World). w.out) ends.1 }
   moved (Some (Print input output)) ends tells = ends.1
   moved (Some (Opt files)) ends tells = ends.1
+  moved (Some (Check files)) ends tells = ends.1
   moved (Some (Run limit input profile)) ends tells = run_moved one limit input profile old new ending ends tells
 
   pub still : (row : Option Row) → Ends row old new ending → (status : ℕ) → status ≡ status_of ending → IsQuiet row old new status → AreStill old new
   still None ends status is quiet = record { input = ap (λ (w : World). w.input) ends.1; out = ap (λ (w : World). w.out) ends.1 }
   still (Some (Print input output)) ends status is quiet = ends.1
   still (Some (Opt files)) ends status is quiet = ends.1
+  still (Some (Check files)) ends status is quiet = ends.1
   still (Some (Run limit input profile)) ends status is quiet = run_still one limit input profile old new ending ends (by quiet)
     where
       by : IsQuiet (Some (Run limit input profile)) old new status → IsQuiet (Some (Run limit input profile)) old new (status_of ending)
@@ -116,22 +128,30 @@ module _ (old new : World) where
   trapped_so None trap ends tells told = absurd (let e = ap status_of ends.0 in omega (arith, e))
   trapped_so (Some (Print input output)) trap ends tells told = absurd ends.0
   trapped_so (Some (Opt files)) trap ends tells told = absurd ends.0
+  trapped_so (Some (Check files)) trap ends tells told = absurd ends.0
   trapped_so (Some (Run limit input profile)) trap ends tells told = run_trapped limit input profile old new trap ends tells told
 
   limited_so : (row : Option Row) (steps : ℕ) → Ends row old new (Err (StepLimit steps)) → IsTrue old.host.tells → IsTrue old.input.tells → IsAtLimit row old
   limited_so None steps ends tells told = absurd (let e = ap status_of ends.0 in omega (arith, e))
   limited_so (Some (Print input output)) steps ends tells told = absurd ends.0
   limited_so (Some (Opt files)) steps ends tells told = absurd ends.0
+  limited_so (Some (Check files)) steps ends tells told = absurd ends.0
   limited_so (Some (Run limit input profile)) steps ends tells told = run_limited limit input profile old new steps ends tells told
 
   done_so : (row : Option Row) (done : Done) → Ends row old new (Ok done) → IsTrue old.host.tells → IsDone row old new
   done_so None done ends tells = absurd (let e = ap status_of ends.0 in omega (arith, e))
   done_so (Some (Print input output)) Written ends tells = ends.0 tells
   done_so (Some (Print input output)) (Returned value) ends tells = absurd ends.0
+  done_so (Some (Print input output)) Checked ends tells = absurd ends.0
   done_so (Some (Run limit input profile)) Written ends tells = absurd ends
+  done_so (Some (Run limit input profile)) Checked ends tells = absurd ends
   done_so (Some (Run limit input profile)) (Returned value) ends tells = (value, ends tells)
   done_so (Some (Opt files)) Written ends tells = ends.0 tells
   done_so (Some (Opt files)) (Returned value) ends tells = absurd ends.0
+  done_so (Some (Opt files)) Checked ends tells = absurd ends.0
+  done_so (Some (Check files)) Checked ends tells = (ends.0.1 tells, ends.0.0)
+  done_so (Some (Check files)) Written ends tells = absurd ends.0
+  done_so (Some (Check files)) (Returned value) ends tells = absurd ends.0
 
   -- a write failed, or memory ran out
   unwritten_so : (row : Option Row) (name : _) → Ends row old new (Err (WriteFault name)) → IsTrue old.host.tells → IsPartlyDone row old new
@@ -141,12 +161,14 @@ module _ (old new : World) where
   unwritten_so (Some (Run limit input profile)) name (inr fault) tells = inr (name.now, (fault.2 tells).0, fault.0, (fault.2 tells).1)
   unwritten_so (Some (Opt files)) name ((rose, inl fault), still) tells = let made = fault.2 tells in inr (made.0, made.1, inl (made.2, fault.1))
   unwritten_so (Some (Opt files)) name ((rose, inr fault), still) tells = let made = fault.1 tells in inr (made.0, made.1, inr (made.2, made.3))
+  unwritten_so (Some (Check files)) name ends tells = absurd ends.0
 
   memory_so : (row : Option Row) → Ends row old new (Err OutOfMemory) → IsTrue old.host.tells → IsPartlyDone row old new
   memory_so None ends tells = absurd (let e = ap status_of ends.0 in omega (arith, e))
   memory_so (Some (Print input output)) ends tells = ends.0 tells
   memory_so (Some (Run limit input profile)) ends tells = (ends tells).1
   memory_so (Some (Opt files)) ends tells = ends.0 tells
+  memory_so (Some (Check files)) ends tells = ends.0
 
   pub trapped : (row : Option Row) (ending : Ending) → Ends row old new ending → (status : ℕ) → status ≡ status_of ending → IsTrue old.host.tells → IsTrue old.input.tells → status ≡ 7 → IsTrapped row old
   trapped row ending ends status is tells told seven =
@@ -171,6 +193,7 @@ module _ (old new : World) where
   cut row (Err OutOfMemory) ends tells status = memory_so row ends tells
   cut row (Ok done) ends tells status = absurd (neither 0 (inl (omega arith)) status)
   cut row (Err Usage) ends tells status = absurd (neither 2 (inl (omega arith)) status)
+  cut row (Err (No reason)) ends tells status = absurd (neither 6 (inr (omega arith)) status)
   cut row (Err (Refused file problem)) ends tells status = absurd (neither 1 (inl (omega arith)) status)
   cut row (Err (ReadFault name)) ends tells status = absurd (neither 3 (inl (omega arith)) status)
   cut row (Err (Trapped trap)) ends tells status = absurd (neither 7 (inr (omega arith)) status)
@@ -179,3 +202,36 @@ module _ (old new : World) where
   pub partly : (row : Option Row) (ending : Ending) → Ends row old new ending → (status : ℕ) → status ≡ status_of ending → IsTrue old.host.tells → (status ≡ 4) ⊎ (status ≡ 5) → IsPartlyDone row old new
   partly row ending ends status is tells (inl four) = cut row ending ends tells (inl (sym is ∙ four))
   partly row ending ends status is tells (inr five) = cut row ending ends tells (inr (sym is ∙ five))
+
+  -- the checker's no
+  pub deny : (one : (bytes : List ℕ) → HasOneAnswer bytes) → OneCertificate → (one_profile : (m : Program) → IsWellFormed m → (bytes : List ℕ) → profile.HasOneAnswer m bytes) → (row : Option Row) (ending : Ending) → Ends row old new ending
+      → IsTrue old.host.tells → IsRowDenied row old.host → (status_of ending ≡ 6) ⊎ (status_of ending ≡ 3) ⊎ (status_of ending ≡ 5)
+  deny one held one_profile None ending ends tells denied = absurd denied
+  deny one held one_profile (Some (Print input output)) ending ends tells denied = absurd denied
+  deny one held one_profile (Some (Run limit input profile)) ending ends tells denied = absurd denied
+  deny one held one_profile (Some (Opt files)) ending ends tells denied = absurd denied
+  deny one held one_profile (Some (Check files)) ending ends tells denied = check_deny one one_profile held files old.host new.host ending ends.0 tells denied
+
+  no_at : (ending : Ending) → status_of ending ≡ 6 → (reason : Reason) × (ending ≡ Err (No reason))
+  no_at (Err (No reason)) e = (reason, refl)
+  no_at (Ok done) e = absurd (omega (arith, e))
+  no_at (Err Usage) e = absurd (omega (arith, e))
+  no_at (Err (Refused file problem)) e = absurd (omega (arith, e))
+  no_at (Err (ReadFault name)) e = absurd (omega (arith, e))
+  no_at (Err (WriteFault name)) e = absurd (omega (arith, e))
+  no_at (Err OutOfMemory) e = absurd (omega (arith, e))
+  no_at (Err (Trapped trap)) e = absurd (omega (arith, e))
+  no_at (Err (StepLimit steps)) e = absurd (omega (arith, e))
+
+  denied_so : (row : Option Row) (reason : Reason) → Ends row old new (Err (No reason)) → IsTrue old.host.tells → IsRowDenied row old.host
+  denied_so None reason ends tells = absurd (let e = ap status_of ends.0 in omega (arith, e))
+  denied_so (Some (Print input output)) reason ends tells = absurd ends.0
+  denied_so (Some (Run limit input profile)) reason ends tells = absurd ends
+  denied_so (Some (Opt files)) reason ends tells = absurd ends.0
+  denied_so (Some (Check files)) reason ends tells = (ends.0.1 tells).denied
+
+  pub denied : (row : Option Row) (ending : Ending) → Ends row old new ending → (status : ℕ) → status ≡ status_of ending → IsTrue old.host.tells → status ≡ 6 → IsRowDenied row old.host
+  denied row ending ends status is tells six =
+      let at = no_at ending (sym is ∙ six) in
+      let P : Ending → Type 0 = λ ending. Ends row old new ending in
+      denied_so row at.0 (subst P at.1 ends) tells

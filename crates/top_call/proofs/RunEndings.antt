@@ -15,11 +15,11 @@ use Rattle.interp.specs.Main.{main_of, run_of, prof_of}
 use Rattle.interp.specs.Run.{EndsWith}
 use Rattle.interp.specs.declared.ends.RunEnd.{RunEnd}
 use Rattle.interp.specs.declared.ends.RunEnd.TheVariants as runs
-use Rattle.top_call.specs.declared.ending.Problem.{Problem}
-use Rattle.top_call.specs.declared.ending.Problem.TheVariants.{TooLong, Text, Grown, NoMain, LongProfile, BadProfile}
-use Rattle.top_call.specs.declared.ending.Done.TheVariants.{Written, Returned}
-use Rattle.top_call.specs.declared.ending.Stop.TheVariants.{Usage, Refused, ReadFault, WriteFault, OutOfMemory, Trapped, StepLimit}
-use Rattle.top_call.specs.Ending.{Ending, status_of}
+use Rattle.call_lines.specs.declared.ending.Problem.{Problem}
+use Rattle.call_lines.specs.declared.ending.Problem.TheVariants.{TooLong, Text, Grown, NoMain, LongProfile, BadProfile, LongOutput, BadCertificate}
+use Rattle.call_lines.specs.declared.ending.Done.TheVariants.{Written, Checked, Returned}
+use Rattle.call_lines.specs.declared.ending.Stop.TheVariants.{Usage, Refused, ReadFault, WriteFault, OutOfMemory, No, Trapped, StepLimit}
+use Rattle.call_lines.specs.Ending.{Ending, status_of}
 use Rattle.top_call.specs.World.{World, AreStill}
 use Rattle.top_call.specs.Run.{HasRunProblem, RunsTo, Returns, Traps, EndsNothing, RanAs, RunEnds, HasMoved, IsFileFault, IsInputFault}
 use Rattle.top_call.proofs.Endings.{same_program, not_long, not_refused}
@@ -82,6 +82,8 @@ module _ (one : (bytes : List ℕ) → HasOneAnswer bytes) (limit : ℕ) (input 
   no_problem result run some (Text refusal excerpt) has = not_refused one old.host input run.program refusal excerpt run.reads has
   no_problem result run some Grown has = absurd has
   no_problem result run some LongProfile has = absurd has
+  no_problem result run some LongOutput has = absurd has
+  no_problem result run some (BadCertificate path) has = absurd has
   no_problem result run some (BadProfile problem) has = absurd has
   no_problem result run some NoMain has =
       let P : Program → Type 0 = λ m. IsSome (main_of m) in
@@ -93,6 +95,8 @@ module _ (one : (bytes : List ℕ) → HasOneAnswer bytes) (limit : ℕ) (input 
   runs_without_problem progress to (Text refusal excerpt) has = not_refused one old.host input to.0 refusal excerpt to.1 has
   runs_without_problem progress to Grown has = absurd has
   runs_without_problem progress to LongProfile has = absurd has
+  runs_without_problem progress to LongOutput has = absurd has
+  runs_without_problem progress to (BadCertificate path) has = absurd has
   runs_without_problem progress to (BadProfile problem) has = absurd has
   runs_without_problem progress to NoMain has =
       let P : Program → Type 0 = λ m. main_of m ≡ None in
@@ -109,6 +113,7 @@ module _ (one : (bytes : List ℕ) → HasOneAnswer bytes) (limit : ℕ) (input 
   pub run_not_done : (ending : Ending) → RunEnds limit input profile old new ending → IsTrue old.host.tells
       → (problem : Problem) → HasRunProblem old.host input problem → (status_of ending ≡ 1) ⊎ (status_of ending ≡ 3) ⊎ (status_of ending ≡ 5)
   run_not_done (Ok Written) ends tells problem has = absurd ends
+  run_not_done (Ok Checked) ends tells problem has = absurd ends
   run_not_done (Ok (Returned value)) ends tells problem has = absurd (let run = (ends tells).0.run in no_problem _ run (has_main limit input old new _ run) problem has)
   run_not_done (Err (Refused file told)) ends tells problem has = inl refl
   run_not_done (Err (ReadFault name)) ends tells problem has = inr (inl refl)
@@ -118,6 +123,7 @@ module _ (one : (bytes : List ℕ) → HasOneAnswer bytes) (limit : ℕ) (input 
   run_not_done (Err (Trapped trap)) ends tells problem has = absurd (let run = ends.1 tells in no_problem _ run (has_main limit input old new _ run) problem has)
   run_not_done (Err (StepLimit steps)) ends tells problem has = absurd (let run = ends.2 tells in no_problem _ run (has_main limit input old new _ run) problem has)
   run_not_done (Err Usage) ends tells problem has = absurd ends
+  run_not_done (Err (No reason)) ends tells problem has = absurd ends
 
   -- ---- what the run comes to, and the ending
 
@@ -138,10 +144,12 @@ module _ (one : (bytes : List ℕ) → HasOneAnswer bytes) (limit : ℕ) (input 
   run_complete (Err (Trapped trap)) ends tells told to reads writes = absurd (comes _ _ (ends.1 tells) told to.2).1
   run_complete (Err (StepLimit steps)) ends tells told to reads writes = absurd (comes _ _ (ends.2 tells) told to.2).1
   run_complete (Err Usage) ends tells told to reads writes = absurd ends
+  run_complete (Err (No reason)) ends tells told to reads writes = absurd ends
 
   pub run_traps : (ending : Ending) → RunEnds limit input profile old new ending → IsTrue old.host.tells → IsTrue old.input.tells → Traps limit input old
       → (status_of ending ≡ 7) ⊎ (status_of ending ≡ 3) ⊎ (status_of ending ≡ 4) ⊎ (status_of ending ≡ 5)
   run_traps (Ok Written) ends tells told to = absurd ends
+  run_traps (Ok Checked) ends tells told to = absurd ends
   run_traps (Ok (Returned value)) ends tells told to = absurd (comes _ _ (ends tells).0.run told to.2).1
   run_traps (Err (Refused file problem)) ends tells told to = absurd (runs_without_problem _ to.2 problem (ends.3 tells))
   run_traps (Err (ReadFault name)) ends tells told to = inr (inl refl)
@@ -150,10 +158,12 @@ module _ (one : (bytes : List ℕ) → HasOneAnswer bytes) (limit : ℕ) (input 
   run_traps (Err (Trapped trap)) ends tells told to = inl refl
   run_traps (Err (StepLimit steps)) ends tells told to = absurd (comes _ _ (ends.2 tells) told to.2).1
   run_traps (Err Usage) ends tells told to = absurd ends
+  run_traps (Err (No reason)) ends tells told to = absurd ends
 
   pub run_ends_nothing : (ending : Ending) → RunEnds limit input profile old new ending → IsTrue old.host.tells → IsTrue old.input.tells → EndsNothing limit input old
       → (status_of ending ≡ 8) ⊎ (status_of ending ≡ 3) ⊎ (status_of ending ≡ 4) ⊎ (status_of ending ≡ 5)
   run_ends_nothing (Ok Written) ends tells told to = absurd ends
+  run_ends_nothing (Ok Checked) ends tells told to = absurd ends
   run_ends_nothing (Ok (Returned value)) ends tells told to = absurd (comes _ _ (ends tells).0.run told to.1).1
   run_ends_nothing (Err (Refused file problem)) ends tells told to = absurd (runs_without_problem _ to.1 problem (ends.3 tells))
   run_ends_nothing (Err (ReadFault name)) ends tells told to = inr (inl refl)
@@ -162,6 +172,7 @@ module _ (one : (bytes : List ℕ) → HasOneAnswer bytes) (limit : ℕ) (input 
   run_ends_nothing (Err (Trapped trap)) ends tells told to = absurd (comes _ _ (ends.1 tells) told to.1).1
   run_ends_nothing (Err (StepLimit steps)) ends tells told to = inl refl
   run_ends_nothing (Err Usage) ends tells told to = absurd ends
+  run_ends_nothing (Err (No reason)) ends tells told to = absurd ends
 
   -- ---- what is taken and put
 
@@ -171,6 +182,7 @@ module _ (one : (bytes : List ℕ) → HasOneAnswer bytes) (limit : ℕ) (input 
 
   pub run_moved : (ending : Ending) → RunEnds limit input profile old new ending → IsTrue old.host.tells → HasMoved limit input old new
   run_moved (Ok Written) ends tells = absurd ends
+  run_moved (Ok Checked) ends tells = absurd ends
   run_moved (Ok (Returned value)) ends tells = inr (_, (ends tells).0.run)
   run_moved (Err (Refused file problem)) ends tells = inl ends.2
   run_moved (Err (ReadFault name)) ends tells = read_moved name.now ends.1 tells
@@ -180,6 +192,7 @@ module _ (one : (bytes : List ℕ) → HasOneAnswer bytes) (limit : ℕ) (input 
   run_moved (Err (Trapped trap)) ends tells = inr (_, ends.1 tells)
   run_moved (Err (StepLimit steps)) ends tells = inr (_, ends.2 tells)
   run_moved (Err Usage) ends tells = absurd ends
+  run_moved (Err (No reason)) ends tells = absurd ends
 
   read_still : (name : List ℕ) → IsFileFault input old new name ⊎ IsInputFault limit input old new name → ¬ (Rose old.input.faults new.input.faults) → AreStill old new
   read_still name (inl fault) calm = fault.1
@@ -217,6 +230,7 @@ module _ (one : (bytes : List ℕ) → HasOneAnswer bytes) (limit : ℕ) (input 
   run_still (Err OutOfMemory) ends (inr (inl both)) = absurd (omega (arith, both.0))
   run_still (Err OutOfMemory) ends (inr (inr has)) = moved_still (ends has.0).0 has.1.0 has.1.1
   run_still (Ok Written) ends quiet = absurd ends
+  run_still (Ok Checked) ends quiet = absurd ends
   run_still (Ok (Returned value)) ends (inl status) = absurd (omega (arith, status))
   run_still (Ok (Returned value)) ends (inr (inl both)) = absurd (omega (arith, both.0))
   run_still (Ok (Returned value)) ends (inr (inr has)) = absurd (let run = (ends has.0).0.run in no_problem _ run (has_main limit input old new _ run) has.1.0 has.1.1)
@@ -230,3 +244,4 @@ module _ (one : (bytes : List ℕ) → HasOneAnswer bytes) (limit : ℕ) (input 
   run_still (Err (StepLimit steps)) ends (inr (inl both)) = absurd (omega (arith, both.0))
   run_still (Err (StepLimit steps)) ends (inr (inr has)) = absurd (let run = ends.2 has.0 in no_problem _ run (has_main limit input old new _ run) has.1.0 has.1.1)
   run_still (Err Usage) ends quiet = absurd ends
+  run_still (Err (No reason)) ends quiet = absurd ends

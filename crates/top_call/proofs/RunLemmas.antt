@@ -13,11 +13,11 @@ use Rattle.profile.specs.declared.counts.Profile.{Profile}
 use Rattle.interp.specs.Run.{Ran}
 use Rattle.interp.specs.declared.ends.RunEnd.{RunEnd}
 use Rattle.interp.specs.declared.ends.RunEnd.TheVariants as runs
-use Rattle.top_call.specs.declared.ending.Problem.{Problem}
-use Rattle.top_call.specs.declared.ending.Problem.TheVariants.{TooLong, Text, Grown, NoMain, LongProfile, BadProfile}
-use Rattle.top_call.specs.declared.ending.Done.TheVariants.{Returned}
-use Rattle.top_call.specs.declared.ending.Stop.{Stop}
-use Rattle.top_call.specs.declared.ending.Stop.TheVariants.{Usage, Refused, ReadFault, WriteFault, OutOfMemory, Trapped, StepLimit}
+use Rattle.call_lines.specs.declared.ending.Problem.{Problem}
+use Rattle.call_lines.specs.declared.ending.Problem.TheVariants.{TooLong, Text, Grown, NoMain, LongProfile, BadProfile, LongOutput, BadCertificate}
+use Rattle.call_lines.specs.declared.ending.Done.TheVariants.{Returned}
+use Rattle.call_lines.specs.declared.ending.Stop.{Stop}
+use Rattle.call_lines.specs.declared.ending.Stop.TheVariants.{Usage, Refused, ReadFault, WriteFault, OutOfMemory, No, Trapped, StepLimit}
 use Rattle.top_call.specs.World.{world}
 use Rattle.top_call.specs.Print.{ReadsAs, text_limit}
 use Rattle.top_call.specs.Run.{HasRunProblem, HasReturned, RanAs, RunEnds, LeavesProfilePart, typed_value}
@@ -33,6 +33,7 @@ read_stopped limit input profile old new source sink (ReadFault name) stops read
     (reads.files, inl (stops.0, record { input = refl; out = refl }, stops.1))
 read_stopped limit input profile old new source sink OutOfMemory stops reads = λ tells. (inl (record { input = refl; out = refl }), inl reads.files)
 read_stopped limit input profile old new source sink Usage stops reads = absurd stops
+read_stopped limit input profile old new source sink (No reason) stops reads = absurd stops
 read_stopped limit input profile old new source sink (WriteFault name) stops reads = absurd stops
 read_stopped limit input profile old new source sink (Trapped trap) stops reads = absurd stops
 read_stopped limit input profile old new source sink (StepLimit steps) stops reads = absurd stops
@@ -50,10 +51,13 @@ module _ (limit : ℕ) (input : List ℕ) (profile : Option (List ℕ)) (before 
       (stops.0, read.files, record { input = refl; out = refl }, λ tells. (bytes, holds tells, short, stops.1.0, stops.1.1))
   parse_stopped source sink (Refused file Grown) stops = absurd stops.1
   parse_stopped source sink (Refused file NoMain) stops = absurd stops.1
+  parse_stopped source sink (Refused file LongOutput) stops = absurd stops.1
+  parse_stopped source sink (Refused file (BadCertificate path)) stops = absurd stops.1
   parse_stopped source sink (Refused file LongProfile) stops = absurd stops.1
   parse_stopped source sink (Refused file (BadProfile problem)) stops = absurd stops.1
   parse_stopped source sink OutOfMemory stops = λ tells. (inl (record { input = refl; out = refl }), inl read.files)
   parse_stopped source sink Usage stops = absurd stops
+  parse_stopped source sink (No reason) stops = absurd stops
   parse_stopped source sink (ReadFault name) stops = absurd stops
   parse_stopped source sink (WriteFault name) stops = absurd stops
   parse_stopped source sink (Trapped trap) stops = absurd stops
@@ -81,6 +85,7 @@ module _ (limit : ℕ) (input : List ℕ) (profile : Option (List ℕ)) (before 
     run_stopped (Trapped trap) stops = (read.files, ran_as mid _ stops)
     run_stopped (StepLimit steps) stops = (stops.0, read.files, ran_as mid _ stops.1)
     run_stopped Usage stops = absurd stops
+    run_stopped (No reason) stops = absurd stops
 
     module _ (value : Option ℕ) (counts : Profile) (new : HostState)
         (ran : Ran program limit source source' sink sink' (Ok (runs.Returned value counts))) where
@@ -110,6 +115,7 @@ module _ (limit : ℕ) (input : List ℕ) (profile : Option (List ℕ)) (before 
           inr (stops.0, subst P read.write_faults stops.1, λ tells. (has_returned tells, left name.now _ (stops.2 (told tells))))
       profile_stopped OutOfMemory stops = λ tells. (inr (_, ran_as new _ ran tells), memory_left (prof_text program counts.functions) refl stops tells)
       profile_stopped Usage stops = absurd stops
+      profile_stopped (No reason) stops = absurd stops
       profile_stopped (Refused file problem) stops = absurd stops
       profile_stopped (ReadFault name) stops = absurd stops
       profile_stopped (Trapped trap) stops = absurd stops

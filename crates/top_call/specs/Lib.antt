@@ -1,12 +1,9 @@
 pub mod World
 pub mod Row
 pub mod Command
-pub mod Refused
-pub mod RefusedProfile
 pub mod Print
 pub mod Run
 pub mod Opt
+pub mod Check
 pub mod Stops
-pub mod Ending
-pub mod Lines
 pub mod Top

@@ -1,5 +1,5 @@
 -- What `opt` makes of a module and its profile, and how it may end.
-use Rattle.std.specs.Prelude.{◌≡◌, ◌≢◌, ◌⊎◌, ◌<◌, ◌≤◌, ℕ, List, length, codes, All, IsTrue, Some, Ok, Err}
+use Rattle.std.specs.Prelude.{◌≡◌, ◌≢◌, ◌⊎◌, ◌<◌, ◌≤◌, ℕ, List, length, All, IsTrue, Some, Ok, Err}
 use Rattle.mc_host.specs.Faults.{Rose}
 use Rattle.mc_host.specs.Host.{HostState, IsBeforeOrPart, KeepsRights}
 use Rattle.ir_types.specs.Program.{Program}
@@ -11,16 +11,20 @@ use Rattle.ir_machine.specs.Same.{Same}
 use Rattle.profile.specs.declared.counts.FnCounts.{FnCounts}
 use Rattle.profile.specs.declared.reading.ProfileError.{ProfileError}
 use Rattle.profile.specs.Reading as profile
-use Rattle.optimise.specs.Optimised.{HasTooMany, IsOptimised}
-use Rattle.top_call.specs.declared.ending.Problem.{Problem}
-use Rattle.top_call.specs.declared.ending.Problem.TheVariants.{TooLong, Text, Grown, NoMain, LongProfile, BadProfile}
-use Rattle.top_call.specs.declared.ending.ProfileProblem.{ProfileProblem}
-use Rattle.top_call.specs.declared.ending.Done.TheVariants.{Written}
-use Rattle.top_call.specs.declared.ending.Stop.TheVariants.{Refused, ReadFault, WriteFault, OutOfMemory}
-use Rattle.top_call.specs.Ending.{Ending}
+use Rattle.certificate.specs.declared.types.Certificate.{Certificate}
+use Rattle.certificate.specs.Holds.{Holds}
+use Rattle.certificate.specs.Text.{json}
+use Rattle.certified.specs.Certified.{AreAllBest, IsYes}
+use Rattle.optimise.specs.Optimised.{HasTooMany, IsOptimised, IsOptimisedBy}
+use Rattle.call_lines.specs.declared.ending.Problem.{Problem}
+use Rattle.call_lines.specs.declared.ending.Problem.TheVariants.{TooLong, Text, Grown, LongProfile, BadProfile}
+use Rattle.call_lines.specs.declared.ending.ProfileProblem.{ProfileProblem}
+use Rattle.call_lines.specs.declared.ending.Done.TheVariants.{Written}
+use Rattle.call_lines.specs.declared.ending.Stop.TheVariants.{Refused, ReadFault, WriteFault, OutOfMemory}
+use Rattle.call_lines.specs.Ending.{Ending}
 use Rattle.top_call.specs.Row.{OptFiles}
 use Rattle.top_call.specs.Print.{HasProblem, ReadsAs, text_limit}
-use Rattle.top_call.specs.RefusedProfile.{problem_of}
+use Rattle.call_lines.specs.RefusedProfile.{problem_of}
 
 -- ---- what is read
 
@@ -55,8 +59,7 @@ HasFileProblem files host TooLong = HasProblem host files.input TooLong
 HasFileProblem files host (Text refusal excerpt) = HasProblem host files.input (Text refusal excerpt)
 HasFileProblem files host LongProfile = (program : Program) × ReadsAs host files.input program × HasProblem host files.profile TooLong
 HasFileProblem files host (BadProfile problem) = (program : Program) × ReadsAs host files.input program × HasBadProfile host files.profile program problem
-HasFileProblem files host Grown = ⊥
-HasFileProblem files host NoMain = ⊥
+HasFileProblem files host _ = ⊥
 
 -- the file that has the problem
 abbrev pub refused_file : OptFiles → Problem → List ℕ
@@ -112,13 +115,20 @@ KeepsRules files host _ = Unit {0}
 
 -- ---- what is written
 
--- a certificate that names no function yet
-abbrev pub certificate_text : List ℕ
-certificate_text = codes "{\"functions\":[],\"version\":1}"
+-- the certificate names the placements that are chosen and shows that they are good, so the checker says yes to it beside the
+-- text of the optimised module; its own text holds it
+pub record IsShownBy (program : Program) (counts : List FnCounts) (certificate : Certificate) (program' : Program) : Type 0 where
+  pub optimised : IsOptimisedBy program counts certificate program'
+  pub yes : IsYes program counts (text_of program') certificate
+  pub best : AreAllBest program counts certificate
+  pub holds : Holds (json certificate) certificate
 
--- program' is the optimised module: it isn't too large, its text reads back, and it and what is read do what the module does
+-- program' is the optimised module: it isn't too large, its text reads back, it and what is read do what the module does, and
+-- the certificate shows it
 pub record IsOutput (files : OptFiles) (host : HostState) (program' : Program) : Type 0 where
   pub optimises : OptimisesTo files host program'
+  pub certificate : Certificate
+  pub shown : IsShownBy optimises.program optimises.accepted.counts certificate program'
   pub rules : IsWellFormed optimises.program
   pub same : Same optimises.program program'
   pub fit : IsFit program'
@@ -129,12 +139,12 @@ pub record IsOptDone (files : OptFiles) (old new : HostState) : Type 0 where
   pub program' : Program
   pub is_output : IsOutput files old program'
   pub output : new.file files.output ≡ Some (text_of program')
-  pub certificate : new.file files.certificate ≡ Some certificate_text
+  pub certificate : new.file files.certificate ≡ Some (json is_output.certificate)
 
 -- OUT is as before or holds a first part of its text, and CERT is as before; or OUT holds all of it, and CERT is as before or
 -- holds a first part of its text
-abbrev pub LeavesParts : OptFiles → (text : List ℕ) → HostState → HostState → Type 0
-LeavesParts files text old new =
+abbrev pub LeavesParts : OptFiles → (text certificate_text : List ℕ) → HostState → HostState → Type 0
+LeavesParts files text certificate_text old new =
     (IsBeforeOrPart files.output text old new × (new.file files.certificate ≡ old.file files.certificate))
     ⊎ ((new.file files.output ≡ Some text) × IsBeforeOrPart files.certificate certificate_text old new)
 
@@ -142,7 +152,7 @@ LeavesParts files text old new =
 abbrev pub LeavesOptParts : OptFiles → HostState → HostState → Type 0
 LeavesOptParts files old new =
     (new.file ≡ old.file)
-    ⊎ ((program' : Program) × IsOutput files old program' × LeavesParts files (text_of program') old new)
+    ⊎ ((program' : Program) × (output : IsOutput files old program') × LeavesParts files (text_of program') (json output.certificate) old new)
 
 -- ---- endings
 
@@ -156,8 +166,8 @@ IsOutputFault files old new name =
 abbrev pub IsCertificateFault : OptFiles → HostState → HostState → (name : List ℕ) → Type 0
 IsCertificateFault files old new name =
     (name ≡ files.certificate)
-    × (IsTrue old.tells → (program' : Program) × IsOutput files old program' × (new.file files.output ≡ Some (text_of program'))
-    × IsBeforeOrPart files.certificate certificate_text old new)
+    × (IsTrue old.tells → (program' : Program) × (output : IsOutput files old program') × (new.file files.output ≡ Some (text_of program'))
+    × IsBeforeOrPart files.certificate (json output.certificate) old new)
 
 -- the file that could not be read: the module's, or else the profile's
 abbrev pub IsUnread : OptFiles → HostState → (name : List ℕ) → Type 0

@@ -2,15 +2,15 @@
 use Rattle.std.specs.Prelude.{◌≡◌, ◌≢◌, ◌⊎◌, ◌^◌, ◌<◌, ◌≤◌, ℕ, List, length, IsTrue, Some, Ok, Err}
 use Rattle.mc_host.specs.Faults.{Rose}
 use Rattle.mc_host.specs.Host.{HostState, IsBeforeOrPart, KeepsRights}
-use Rattle.top_call.specs.declared.ending.Problem.{Problem}
-use Rattle.top_call.specs.declared.ending.Problem.TheVariants.{TooLong, Text, Grown, NoMain, LongProfile, BadProfile}
-use Rattle.top_call.specs.declared.ending.Done.TheVariants.{Written}
-use Rattle.top_call.specs.declared.ending.Stop.TheVariants.{Refused, ReadFault, WriteFault, OutOfMemory}
-use Rattle.top_call.specs.Ending.{Ending}
+use Rattle.call_lines.specs.declared.ending.Problem.{Problem}
+use Rattle.call_lines.specs.declared.ending.Problem.TheVariants.{TooLong, Text, Grown, NoMain, LongProfile, BadProfile, LongOutput, BadCertificate}
+use Rattle.call_lines.specs.declared.ending.Done.TheVariants.{Written}
+use Rattle.call_lines.specs.declared.ending.Stop.TheVariants.{Refused, ReadFault, WriteFault, OutOfMemory}
+use Rattle.call_lines.specs.Ending.{Ending}
 use Rattle.ir_types.specs.Program.{Program}
 use Rattle.ir_printer.specs.Text.{text_of}
 use Rattle.ir_reader.specs.Reading.{Reads, Refuses, ReadsBack}
-use Rattle.top_call.specs.Refused.{place_of, excerpt_at}
+use Rattle.call_lines.specs.Refused.{place_of, excerpt_at}
 
 -- how many bytes a text has at most
 abbrev pub text_limit : ℕ
@@ -41,6 +41,8 @@ HasProblem host input (Text refusal excerpt) =
 HasProblem host input NoMain = ⊥
 HasProblem host input LongProfile = ⊥
 HasProblem host input (BadProfile problem) = ⊥
+HasProblem host input LongOutput = ⊥
+HasProblem host input (BadCertificate path) = ⊥
 HasProblem host input Grown = (program : Program) × ReadsAs host input program × (text_limit < length (text_of program))
 
 -- the file that is written is as before, or holds a first part of its text, which may be all of it

@@ -8,7 +8,7 @@ use Rattle.std.specs.Str.{bytes_eq}
 use Rattle.std.specs.Str.Parse.{digits_value}
 use Rattle.std.specs.String.{string_bytes}
 
--- the files of `opt`: the module and its profile, the optimised module and its certificate
+-- the files of `opt` and `check`: the module and its profile, the optimised module and its certificate
 pub record OptFiles : Type 0 where
   pub input : List ℕ
   pub profile : List ℕ
@@ -21,6 +21,7 @@ pub data Row : Type 0 where
   -- how many steps at most, the file of the module, and the file of the profile, if one is asked for
   Run : (limit : ℕ) (input : List ℕ) (profile : Option (List ℕ)) → Row
   Opt : (files : OptFiles) → Row
+  Check : (files : OptFiles) → Row
 
 -- the bytes of each word
 abbrev pub texts : List (String Global) → List (List ℕ)
@@ -53,6 +54,12 @@ opt_row (input ∷ profile ∷ output ∷ certificate ∷ []) =
     else Some (Opt (record { input = input; profile = profile; output = output; certificate = certificate }))
 opt_row _ = None
 
+-- `check IN PROF OUT CERT`
+abbrev pub check_row : List (List ℕ) → Option Row
+check_row (input ∷ profile ∷ output ∷ certificate ∷ []) =
+    Some (Check (record { input = input; profile = profile; output = output; certificate = certificate }))
+check_row _ = None
+
 -- the row that the words fit, if any
 abbrev pub row_of : List (List ℕ) → Option Row
 row_of [] = None
@@ -60,4 +67,5 @@ row_of (command ∷ words) =
     if bytes_eq command (codes "print") then print_row words
     else (if bytes_eq command (codes "run") then run_row words
     else (if bytes_eq command (codes "opt") then opt_row words
-    else None))
+    else (if bytes_eq command (codes "check") then check_row words
+    else None)))

@@ -17,11 +17,11 @@ use Rattle.interp.specs.Main.{main_of, run_of}
 use Rattle.interp.specs.Run.{Ran}
 use Rattle.interp.specs.declared.ends.RunEnd.{RunEnd}
 use Rattle.interp.specs.declared.ends.RunEnd.TheVariants as runs
-use Rattle.top_call.specs.declared.ending.Problem.{Problem}
-use Rattle.top_call.specs.declared.ending.Problem.TheVariants.{TooLong, Text, Grown, NoMain, LongProfile, BadProfile}
-use Rattle.top_call.specs.declared.ending.Done.TheVariants.{Returned}
-use Rattle.top_call.specs.declared.ending.Stop.TheVariants.{Refused, ReadFault, WriteFault, OutOfMemory, Trapped, StepLimit}
-use Rattle.top_call.specs.Ending.{Ending}
+use Rattle.call_lines.specs.declared.ending.Problem.{Problem}
+use Rattle.call_lines.specs.declared.ending.Problem.TheVariants.{TooLong, Text, Grown, NoMain, LongProfile, BadProfile, LongOutput, BadCertificate}
+use Rattle.call_lines.specs.declared.ending.Done.TheVariants.{Returned}
+use Rattle.call_lines.specs.declared.ending.Stop.TheVariants.{Refused, ReadFault, WriteFault, OutOfMemory, Trapped, StepLimit}
+use Rattle.call_lines.specs.Ending.{Ending}
 use Rattle.top_call.specs.Print.{HasProblem, ReadsAs}
 use Rattle.top_call.specs.World.{World, AreStill}
 
@@ -32,6 +32,8 @@ abbrev pub HasRunProblem : HostState → List ℕ → Problem → Type 0
 HasRunProblem host input NoMain = (program : Program) × ReadsAs host input program × (main_of program ≡ None)
 HasRunProblem host input Grown = ⊥
 HasRunProblem host input LongProfile = ⊥
+HasRunProblem host input LongOutput = ⊥
+HasRunProblem host input (BadCertificate path) = ⊥
 HasRunProblem host input (BadProfile problem) = ⊥
 HasRunProblem host input TooLong = HasProblem host input TooLong
 HasRunProblem host input (Text refusal excerpt) = HasProblem host input (Text refusal excerpt)

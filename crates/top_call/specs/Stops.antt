@@ -2,10 +2,10 @@
 use Rattle.std.specs.Prelude.{◌≡◌, ◌⊎◌, ◌<◌, ℕ, Option, Some, List, length, IsTrue, codes, Ok, Err}
 use Rattle.mc_host.specs.Faults.{Rose}
 use Rattle.mc_host.specs.Host.{HostState, IsBeforeOrPart}
-use Rattle.top_call.specs.declared.ending.Problem.{Problem}
-use Rattle.top_call.specs.declared.ending.Problem.TheVariants.{TooLong, Text, Grown, NoMain, BadProfile}
-use Rattle.top_call.specs.declared.ending.Stop.{Stop}
-use Rattle.top_call.specs.declared.ending.Stop.TheVariants.{Usage, Refused, ReadFault, WriteFault, OutOfMemory, Trapped, StepLimit}
+use Rattle.call_lines.specs.declared.ending.Problem.{Problem}
+use Rattle.call_lines.specs.declared.ending.Problem.TheVariants.{TooLong, Text, Grown, NoMain, BadProfile, BadCertificate}
+use Rattle.call_lines.specs.declared.ending.Stop.{Stop}
+use Rattle.call_lines.specs.declared.ending.Stop.TheVariants.{Usage, Refused, ReadFault, WriteFault, OutOfMemory, No, Trapped, StepLimit}
 use Rattle.top_call.specs.Print.{HasProblem, text_limit}
 use Rattle.ir_types.specs.Program.{Program}
 use Rattle.ir_printer.specs.Text.{text_of}
@@ -16,10 +16,15 @@ use Rattle.interp.specs.Run.{Ran}
 use Rattle.interp.specs.declared.ends.RunEnd.TheVariants as runs
 use Rattle.top_call.specs.World.{World}
 use Rattle.top_call.specs.Row.{OptFiles}
+use Rattle.certificate.specs.declared.types.Certificate.{Certificate}
+use Rattle.certificate.specs.Parts.{first_wrong, text_parts}
+use Rattle.certificate.specs.Text.{json}
+use Rattle.certified.specs.Certified.{IsYes}
+use Rattle.checker.specs.Reasons.{IsNo}
 use Rattle.optimise.specs.Optimised.{HasTooMany, IsOptimised}
 use Rattle.profile.specs.declared.counts.FnCounts.{FnCounts}
-use Rattle.top_call.specs.Opt.{IsBadProfile, IsFit, IsGrown, LeavesParts, certificate_text}
-use Rattle.top_call.specs.Refused.{place_of, excerpt_at}
+use Rattle.top_call.specs.Opt.{IsBadProfile, IsFit, IsGrown, IsShownBy, LeavesParts}
+use Rattle.call_lines.specs.Refused.{place_of, excerpt_at}
 
 -- why a file was not read, where `long` is its problem if it is too long
 abbrev pub StopsReading : List ℕ → (long : Problem) → HostState → HostState → Stop → Type 0
@@ -28,6 +33,12 @@ StopsReading name long old new (Refused file problem) =
 StopsReading name long old new (ReadFault file) = (file.now ≡ name) × Rose old.read_faults new.read_faults
 StopsReading name long old new OutOfMemory = Unit {0}
 StopsReading name long old new _ = ⊥
+
+-- why a file of any length was not read
+abbrev pub StopsReadingWhole : List ℕ → HostState → HostState → Stop → Type 0
+StopsReadingWhole name old new (ReadFault file) = (file.now ≡ name) × Rose old.read_faults new.read_faults
+StopsReadingWhole name old new OutOfMemory = Unit {0}
+StopsReadingWhole name old new _ = ⊥
 
 -- the text is refused so, told with its bytes at that place
 abbrev pub IsRefusedText : List ℕ → Problem → Type 0
@@ -61,6 +72,7 @@ StopsRunning name limit program old new (Trapped trap) = Ran program limit old.i
 StopsRunning name limit program old new (StepLimit steps) =
     (steps ≡ limit) × Ran program limit old.input new.input old.out new.out (Ok runs.StepLimit)
 StopsRunning name limit program old new Usage = ⊥
+StopsRunning name limit program old new (No reason) = ⊥
 
 -- why a file was not written
 abbrev pub StopsWriting : List ℕ → HostState → HostState → Stop → Type 0
@@ -82,11 +94,15 @@ StopsCounting name content program (Refused file (BadProfile problem)) = (file.n
 StopsCounting name content program OutOfMemory = Unit {0}
 StopsCounting name content program _ = ⊥
 
--- the text is that of a module optimised by the counts that isn't too large, and what is read of it does what the module does
-pub record IsOptimisedText (program : Program) (counts : List FnCounts) (text : List ℕ) : Type 0 where
+-- the texts are those of a module optimised by the counts that isn't too large, and of a certificate that shows it; what is read of the first does what
+-- the module does
+pub record AreOptimisedTexts (program : Program) (counts : List FnCounts) (text certificate_text : List ℕ) : Type 0 where
   pub program' : Program
   pub optimised : IsOptimised program counts program'
+  pub certificate : Certificate
+  pub shown : IsShownBy program counts certificate program'
   pub is_text : text ≡ text_of program'
+  pub is_json : certificate_text ≡ json certificate
   pub fit : IsFit program'
   pub again : Same program fit.back.again
 
@@ -97,13 +113,25 @@ StopsOptimising name program counts (Refused file problem) =
 StopsOptimising name program counts OutOfMemory = Unit {0}
 StopsOptimising name program counts _ = ⊥
 
--- why OUT with this text and CERT were not both written, and what is left
-abbrev pub StopsWritingBoth : OptFiles → (text : List ℕ) → HostState → HostState → Stop → Type 0
-StopsWritingBoth files text old new (WriteFault name) =
+-- why OUT and CERT with these texts were not both written, and what is left
+abbrev pub StopsWritingBoth : OptFiles → (text certificate_text : List ℕ) → HostState → HostState → Stop → Type 0
+StopsWritingBoth files text certificate_text old new (WriteFault name) =
     Rose old.write_faults new.write_faults
     × (((name.now ≡ files.output) × (new.file files.certificate ≡ old.file files.certificate)
     × (IsTrue old.tells → IsBeforeOrPart files.output text old new))
     ⊎ ((name.now ≡ files.certificate)
     × (IsTrue old.tells → (new.file files.output ≡ Some text) × IsBeforeOrPart files.certificate certificate_text old new)))
-StopsWritingBoth files text old new OutOfMemory = IsTrue old.tells → LeavesParts files text old new
-StopsWritingBoth files text old new _ = ⊥
+StopsWritingBoth files text certificate_text old new OutOfMemory = IsTrue old.tells → LeavesParts files text certificate_text old new
+StopsWritingBoth files text certificate_text old new _ = ⊥
+
+-- why the bytes of a certificate gave none
+abbrev pub StopsCertifying : (name content : List ℕ) → Stop → Type 0
+StopsCertifying name content (Refused file (BadCertificate path)) = (file.now ≡ name) × (first_wrong (text_parts content) ≡ Some path)
+StopsCertifying name content OutOfMemory = Unit {0}
+StopsCertifying name content _ = ⊥
+
+-- why the checker didn't say yes
+abbrev pub StopsChecking : Program → List FnCounts → (text : List ℕ) → Certificate → Stop → Type 0
+StopsChecking program counts text certificate (No reason) = ¬ (IsYes program counts text certificate) × IsNo program counts text certificate reason
+StopsChecking program counts text certificate OutOfMemory = Unit {0}
+StopsChecking program counts text certificate _ = ⊥

@@ -4,15 +4,16 @@ use Rattle.std.specs.declared.option.Option.{Option}
 use Rattle.mc_num.specs.declared.op.Width.{Width}
 use Rattle.mc_host.specs.Faults.{Rose}
 use Rattle.mc_host.specs.Host.{HostState}
-use Rattle.top_call.specs.declared.ending.Problem.{Problem}
-use Rattle.top_call.specs.declared.ending.Problem.TheVariants.{Grown}
-use Rattle.top_call.specs.declared.ending.Stop.TheVariants.{Usage}
-use Rattle.top_call.specs.Ending.{Ending}
-use Rattle.top_call.specs.Row.{Row, Print, Run, Opt}
+use Rattle.call_lines.specs.declared.ending.Problem.{Problem}
+use Rattle.call_lines.specs.declared.ending.Problem.TheVariants.{Grown}
+use Rattle.call_lines.specs.declared.ending.Stop.TheVariants.{Usage}
+use Rattle.call_lines.specs.Ending.{Ending}
+use Rattle.top_call.specs.Row.{Row, Print, Run, Opt, Check}
 use Rattle.top_call.specs.World.{World, AreStill}
 use Rattle.top_call.specs.Print.{PrintEnds, PrintsAs, ReadsAs, HasProblem, LeavesPart}
 use Rattle.top_call.specs.Run as run
 use Rattle.top_call.specs.Opt.{OptEnds, AreAccepted, AreOptimisable, HasGrown, HasOptProblem, IsOptDone, LeavesOptParts}
+use Rattle.top_call.specs.Check.{CheckEnds, HasCheckProblem, IsAgreed, IsCheckDone, IsDenied}
 use Rattle.ir_types.specs.Program.{Program}
 
 -- the host lets the row read and write its files
@@ -23,6 +24,9 @@ MayDo (Some (Run limit input profile)) host = IsTrue (host.may_read input) × If
 MayDo (Some (Opt files)) host =
     IsTrue (host.may_read files.input) × IsTrue (host.may_read files.profile)
     × IsTrue (host.may_write files.output) × IsTrue (host.may_write files.certificate)
+MayDo (Some (Check files)) host =
+    IsTrue (host.may_read files.input) × IsTrue (host.may_read files.profile)
+    × IsTrue (host.may_read files.output) × IsTrue (host.may_read files.certificate)
 
 -- the row writes this file
 abbrev pub Writes : Option Row → List ℕ → Type 0
@@ -30,6 +34,7 @@ Writes None name = ⊥
 Writes (Some (Print input output)) name = name ≡ output
 Writes (Some (Run limit input profile)) name = profile ≡ Some name
 Writes (Some (Opt files)) name = (name ≡ files.output) ⊎ (name ≡ files.certificate)
+Writes (Some (Check files)) name = ⊥
 
 -- a file that the row reads has a problem, or its text is too long
 abbrev pub IsRefused : Option Row → HostState → Type 0
@@ -37,6 +42,7 @@ IsRefused None host = ⊥
 IsRefused (Some (Print input output)) host = (problem : Problem) × HasProblem host input problem
 IsRefused (Some (Run limit input profile)) host = (problem : Problem) × run.HasRunProblem host input problem
 IsRefused (Some (Opt files)) host = (problem : Problem) × HasOptProblem files host problem
+IsRefused (Some (Check files)) host = (problem : Problem) × HasCheckProblem files host problem
 
 -- the files that the row reads are accepted, and its text isn't too long; the run returns
 abbrev pub IsAccepted : Option Row → World → Type 0
@@ -44,6 +50,7 @@ IsAccepted None old = ⊥
 IsAccepted (Some (Print input output)) old = (text : List ℕ) × PrintsAs old.host input text
 IsAccepted (Some (Run limit input profile)) old = IsTrue old.input.tells × run.Returns limit input old
 IsAccepted (Some (Opt files)) old = AreOptimisable files old.host
+IsAccepted (Some (Check files)) old = IsAgreed files old.host
 
 -- the files that the row reads are accepted, if it only reads them and writes a text
 abbrev pub AreRead : Option Row → World → Type 0
@@ -56,6 +63,11 @@ abbrev pub IsTooLarge : Option Row → World → Type 0
 IsTooLarge (Some (Print input output)) old = HasProblem old.host input Grown
 IsTooLarge (Some (Opt files)) old = HasGrown files old.host
 IsTooLarge _ old = ⊥
+
+-- the files that the row checks are read, and the certificate doesn't show what it must
+abbrev pub IsRowDenied : Option Row → HostState → Type 0
+IsRowDenied (Some (Check files)) host = IsDenied files host
+IsRowDenied _ host = ⊥
 
 -- the run that the row asks for traps within its steps
 abbrev pub IsTrapped : Option Row → World → Type 0
@@ -73,6 +85,7 @@ IsDone None old new = ⊥
 IsDone (Some (Print input output)) old new = (text : List ℕ) × PrintsAs old.host input text × (new.host.file output ≡ Some text)
 IsDone (Some (Run limit input profile)) old new = (value : Option (Width × ℕ)) × run.RunIsDone limit input profile old new value
 IsDone (Some (Opt files)) old new = IsOptDone files old.host new.host
+IsDone (Some (Check files)) old new = IsCheckDone files old.host × (new.host.file ≡ old.host.file)
 
 -- the file that the row writes is as before, or holds a first part of its text
 abbrev pub IsPartlyDone : Option Row → World → World → Type 0
@@ -80,6 +93,7 @@ IsPartlyDone None old new = ⊥
 IsPartlyDone (Some (Print input output)) old new = LeavesPart input output old.host new.host
 IsPartlyDone (Some (Run limit input profile)) old new = run.LeavesProfilePart limit input profile old new
 IsPartlyDone (Some (Opt files)) old new = LeavesOptParts files old.host new.host
+IsPartlyDone (Some (Check files)) old new = new.host.file ≡ old.host.file
 
 -- a count of the reads that the row makes rose: of files, and for a run of the standard input
 abbrev pub HasReadFault : Option Row → World → World → Type 0
@@ -88,6 +102,7 @@ HasReadFault (Some (Print input output)) old new = Rose old.host.read_faults new
 HasReadFault (Some (Run limit input profile)) old new =
     Rose old.host.read_faults new.host.read_faults ⊎ Rose old.input.faults new.input.faults
 HasReadFault (Some (Opt files)) old new = Rose old.host.read_faults new.host.read_faults
+HasReadFault (Some (Check files)) old new = Rose old.host.read_faults new.host.read_faults
 
 -- a count of the writes that the row makes rose: of files, and for a run of the standard output
 abbrev pub HasWriteFault : Option Row → World → World → Type 0
@@ -96,6 +111,7 @@ HasWriteFault (Some (Print input output)) old new = Rose old.host.write_faults n
 HasWriteFault (Some (Run limit input profile)) old new =
     Rose old.host.write_faults new.host.write_faults ⊎ Rose old.out.faults new.out.faults
 HasWriteFault (Some (Opt files)) old new = Rose old.host.write_faults new.host.write_faults
+HasWriteFault (Some (Check files)) old new = ⊥
 
 -- the row, ended by this status, leaves the standard input and output as they were
 abbrev pub IsQuiet : Option Row → World → World → ℕ → Type 0
@@ -105,6 +121,7 @@ IsQuiet (Some (Run limit input profile)) old new status =
     (status ≡ 1) ⊎ ((status ≡ 3) × ¬ (Rose old.input.faults new.input.faults))
     ⊎ (IsTrue old.host.tells × IsRefused (Some (Run limit input profile)) old.host)
 IsQuiet (Some (Opt files)) old new status = Unit {0}
+IsQuiet (Some (Check files)) old new status = Unit {0}
 
 -- what the row took from the standard input and put on the standard output: nothing, or what its run so far took and put
 abbrev pub HasMoved : Option Row → World → World → Type 0
@@ -112,6 +129,7 @@ HasMoved None old new = AreStill old new
 HasMoved (Some (Print input output)) old new = AreStill old new
 HasMoved (Some (Run limit input profile)) old new = run.HasMoved limit input old new
 HasMoved (Some (Opt files)) old new = AreStill old new
+HasMoved (Some (Check files)) old new = AreStill old new
 
 -- how the call may end, each ending with its cause
 abbrev pub Ends : Option Row → World → World → Ending → Type 0
@@ -119,3 +137,4 @@ Ends None old new ending = (ending ≡ Err Usage) × (new ≡ old)
 Ends (Some (Print input output)) old new ending = PrintEnds input output old.host new.host ending × AreStill old new
 Ends (Some (Run limit input profile)) old new ending = run.RunEnds limit input profile old new ending
 Ends (Some (Opt files)) old new ending = OptEnds files old.host new.host ending × AreStill old new
+Ends (Some (Check files)) old new ending = CheckEnds files old.host new.host ending × AreStill old new

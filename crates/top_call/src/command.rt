@@ -1,7 +1,7 @@
 //! The words after the program's name.
 ghost use Rattle.std.specs.Prelude.{◌≡◌, IfSome};
 ghost use Rattle.std.specs.Option.{option_map};
-ghost use Rattle.top_call.specs.Row.{row_of, print_row, run_row, opt_row, limit_of, profile_of, texts};
+ghost use Rattle.top_call.specs.Row.{row_of, check_row, print_row, run_row, opt_row, limit_of, profile_of, texts};
 ghost use Rattle.top_call.specs.Command.{row_of_command, IsAllowed};
 
 use crate::limit::limit_of;
@@ -20,6 +20,8 @@ pub(crate) enum Command<'a> {
     Run(Asked<'a>),
     /// Optimises a module by its profile.
     Opt(OptNames<'a>),
+    /// Checks what was written for a module and its profile.
+    Check(OptNames<'a>),
 }
 
 /// What is asked of a run.
@@ -33,16 +35,16 @@ pub(crate) struct Asked<'a> {
     pub(crate) profile: Option<&'a str>,
 }
 
-/// The files of `opt`. The two that are written differ.
+/// The files of `opt` and `check`. The two that `opt` writes differ.
 #[derive(Clone, Copy, Debug, PartialEq, Eq)]
 pub(crate) struct OptNames<'a> {
     /// The file of the module.
     pub(crate) input: &'a str,
     /// The file of its profile.
     pub(crate) profile: &'a str,
-    /// The file that the optimised module is written to.
+    /// The file of the optimised module.
     pub(crate) output: &'a str,
-    /// The file that its certificate is written to.
+    /// The file of its certificate.
     pub(crate) certificate: &'a str,
 }
 
@@ -93,6 +95,21 @@ fn opt_command(words: &[String]) -> Option<Command<'_>>
     }
 }
 
+fn check_command(words: &[String]) -> Option<Command<'_>>
+    ensures row { option_map row_of_command result ≡ check_row (texts words.now) }
+    ensures allowed { IfSome result IsAllowed }
+{
+    match words {
+        [input, profile, output, certificate] => Some(Command::Check(OptNames {
+            input,
+            profile,
+            output,
+            certificate,
+        })),
+        _ => None,
+    }
+}
+
 /// The command that the words fit, if any.
 pub(crate) fn command_of(words: &[String]) -> Option<Command<'_>>
     ensures row { option_map row_of_command result ≡ row_of (texts words.now) }
@@ -103,6 +120,7 @@ pub(crate) fn command_of(words: &[String]) -> Option<Command<'_>>
         "print" => print_command(words),
         "run" => run_command(words),
         "opt" => opt_command(words),
+        "check" => check_command(words),
         _ => None,
     }
 }

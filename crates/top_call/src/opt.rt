@@ -3,38 +3,42 @@ ghost use Rattle.std.specs.Prelude.{◌≡◌, ◌≢◌, ◌≤◌, length, All
 ghost use Rattle.mc_host.specs.Host.{HostState, OnlyReads};
 ghost use Rattle.ir_types.specs.Limits.{IsWithinLimits};
 ghost use Rattle.ir_types.specs.WellFormed.{IsWellFormed};
-ghost use Rattle.optimise.specs.Optimised.{IsOptimised};
+ghost use Rattle.certificate.specs.Limits.{IsWithin};
+ghost use Rattle.certificate.specs.Text.{json};
+ghost use Rattle.optimise.specs.Optimised.{IsOptimisedBy};
 ghost use Rattle.profile.specs.Counts.{IsAccepted};
 ghost use Rattle.profile.specs.Reading as reading;
 ghost use Rattle.top_call.specs.Command.{files_of};
-ghost use Rattle.top_call.specs.Lines.{Answers};
-ghost use Rattle.top_call.specs.Opt.{certificate_text, OptEnds, OnlyOptimises};
+ghost use Rattle.call_lines.specs.Lines.{Answers};
+ghost use Rattle.top_call.specs.Opt.{OptEnds, OnlyOptimises};
+ghost use Rattle.call_lines.specs.declared.ending.Stop.TheVariants.{OutOfMemory};
 ghost use Rattle.top_call.specs.Print.{text_limit};
-ghost use Rattle.top_call.specs.Stops.{IsOptimisedText, StopsCounting, StopsOptimising, StopsWritingBoth};
+ghost use Rattle.top_call.specs.Stops.{AreOptimisedTexts, StopsCounting, StopsOptimising, StopsWritingBoth};
 
 use crate::command::OptNames;
-use crate::ending::{Done, Problem, Stop};
-use crate::lines::finish;
 use crate::print::{parsed, printed, read_short, write_text};
-use crate::profile_lines::problem_of;
+use call_lines::{Done, Problem, Stop, finish, problem_of};
+use certificate::{Certificate, text_holds_its_certificate, to_json};
+use certified::certified_are_best;
 use ir_check::within_limits;
 use ir_reader::reads_back;
 use ir_types::module::Module;
 use mc_host::{Host, Sink};
-use optimise::{OptimiseError, optimise};
+use mc_num::NoMemory;
+use optimise::{OptimiseError, Optimised, optimise};
 use plain_same::plain_same;
 use profile::{Profile, read_profile};
 use std::alloc::Global;
 
 /// A module keeps its rules. It does nothing.
-fn keeps_rules(program: &Module<'_>)
+pub(crate) fn keeps_rules(program: &Module<'_>)
     ensures { IsWellFormed program.now }
 {
     let _functions = program.functions();
 }
 
 /// The counts that the bytes of a profile say.
-fn counted<'a>(
+pub(crate) fn counted<'a>(
     alloc: Global,
     file: &'a str,
     bytes: &[u8],
@@ -56,16 +60,26 @@ fn counted<'a>(
     }
 }
 
-/// The module optimised by the counts, whether it is too large or not.
+/// The texts that `opt` writes.
+#[derive(Drop)]
+struct Texts {
+    /// The text of the optimised module.
+    module: Vec<u8>,
+    /// The text of its certificate.
+    certificate: Vec<u8>,
+}
+
+/// The module optimised by the counts, whether it is too large or not, and its certificate.
 fn optimised<'a, 'p>(
     alloc: Global,
     file: &'a str,
     program: &Module<'p>,
     counts: &Profile,
-) -> Result<Module<'p>, Stop<'a>>
+) -> Result<Optimised<'p>, Stop<'a>>
     requires limits { All IsWithinLimits program.now.functions }
     requires counts { IsAccepted program.now counts.now.functions }
-    ensures optimised { IfOk result (IsOptimised program.now counts.now.functions) }
+    ensures optimised { IfOk result (λ made. IsOptimisedBy program.now counts.now.functions made.certificate made.module) }
+    ensures within { IfOk result (λ made. IsWithin made.certificate) }
     ensures stops { IfErr result (StopsOptimising file.now program.now counts.now.functions) }
 {
     match optimise(alloc, program, counts) {
@@ -78,36 +92,47 @@ fn optimised<'a, 'p>(
     }
 }
 
-/// The text of the module optimised by the counts.
-fn optimised_text<'a>(
+/// The text of a certificate.
+fn certificate_text<'a>(alloc: Global, certificate: &Certificate) -> Result<Vec<u8>, Stop<'a>>
+    ensures text { IfOk result (λ text. text.items ≡ json certificate.now) }
+    ensures stops { IfErr result (λ stop. stop ≡ OutOfMemory) }
+{
+    match to_json(alloc, certificate) {
+        Ok(text) => Ok(text),
+        Err(NoMemory) => Err(Stop::OutOfMemory),
+    }
+}
+
+/// The text of the module optimised by the counts, and that of its certificate.
+fn optimised_texts<'a>(
     alloc: Global,
     file: &'a str,
     program: &Module<'_>,
     counts: &Profile,
-) -> Result<Vec<u8>, Stop<'a>>
+) -> Result<Texts, Stop<'a>>
     requires limits { All IsWithinLimits program.now.functions }
     requires counts { IsAccepted program.now counts.now.functions }
-    ensures text { IfOk result (λ text. IsOptimisedText program.now counts.now.functions text.items) }
+    ensures texts { IfOk result (λ texts. AreOptimisedTexts program.now counts.now.functions texts.module.items texts.certificate.items) }
     ensures stops { IfErr result (StopsOptimising file.now program.now counts.now.functions) }
 {
     let optimised = optimised(alloc, file, program, counts)?;
-    if !within_limits(&optimised) {
+    if !within_limits(&optimised.module) {
         return Err(Stop::Refused {
             file,
             problem: Problem::Grown,
         });
     }
-    keeps_rules(&optimised);
+    keeps_rules(&optimised.module);
     reads_back();
     plain_same();
-    printed(alloc, file, &optimised)
-}
-
-/// The text of a certificate that names no function yet.
-fn certificate<'a>() -> &'a [u8]
-    ensures { result.now ≡ certificate_text }
-{
-    b"{\"functions\":[],\"version\":1}"
+    certified_are_best();
+    text_holds_its_certificate();
+    let module = printed(alloc, file, &optimised.module)?;
+    let certificate = certificate_text(alloc, &optimised.certificate)?;
+    Ok(Texts {
+        module,
+        certificate,
+    })
 }
 
 /// Writes the text of the optimised module, and then its certificate.
@@ -115,18 +140,18 @@ fn write_both<'a, H: Host>(
     alloc: Global,
     host: &mut H,
     names: OptNames<'a>,
-    text: &[u8],
+    texts: &Texts,
 ) -> Result<(), Stop<'a>>
     requires output { IsTrue ((H.state host.old).may_write names.output.now) }
     requires certificate { IsTrue ((H.state host.old).may_write names.certificate.now) }
     requires differ { names.output.now ≢ names.certificate.now }
-    ensures output { OnOk result (IsTrue (H.state host.old).tells → (H.state host.new).file names.entry.output.now ≡ Some text.now) }
-    ensures certificate { OnOk result (IsTrue (H.state host.old).tells → (H.state host.new).file names.entry.certificate.now ≡ Some certificate_text) }
-    ensures stops { IfErr result (StopsWritingBoth (files_of names.entry) text.now (H.state host.old) (H.state host.new)) }
+    ensures output { OnOk result (IsTrue (H.state host.old).tells → (H.state host.new).file names.entry.output.now ≡ Some texts.now.module.items) }
+    ensures certificate { OnOk result (IsTrue (H.state host.old).tells → (H.state host.new).file names.entry.certificate.now ≡ Some texts.now.certificate.items) }
+    ensures stops { IfErr result (StopsWritingBoth (files_of names.entry) texts.now.module.items texts.now.certificate.items (H.state host.old) (H.state host.new)) }
     ensures rest { OnlyOptimises (files_of names.entry) (H.state host.old) (H.state host.new) }
 {
-    write_text(alloc, host, names.output, text)?;
-    write_text(alloc, host, names.certificate, certificate())
+    write_text(alloc, host, names.output, &texts.module)?;
+    write_text(alloc, host, names.certificate, &texts.certificate)
 }
 
 /// Optimises what `source` reads as, by the profile that is named; `source` are the bytes of the module's file.
@@ -150,8 +175,8 @@ fn opt_source<'a, H: Host>(
     keeps_rules(&program);
     let profile = read_short(alloc, host, names.profile, Problem::LongProfile)?;
     let counts = counted(alloc, names.profile, &profile, &program)?;
-    let text = optimised_text(alloc, names.input, &program, &counts)?;
-    write_both(alloc, host, names, &text)?;
+    let texts = optimised_texts(alloc, names.input, &program, &counts)?;
+    write_both(alloc, host, names, &texts)?;
     Ok(Done::Written)
 }
 

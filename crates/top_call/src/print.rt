@@ -1,16 +1,14 @@
 //! The command `print`: reads a file, and writes its text to another.
 ghost use Rattle.std.specs.Prelude.{◌≡◌, ◌≤◌, length, All, IsTrue, IfOk, OnOk, OnErr, IfErr, Some};
 ghost use Rattle.mc_host.specs.Host.{HostState, OnlyReads, OnlyWrites, IsBeforeOrPart};
-ghost use Rattle.top_call.specs.Lines.{Answers};
+ghost use Rattle.call_lines.specs.Lines.{Answers};
 ghost use Rattle.top_call.specs.Print.{text_limit, PrintEnds, OnlyPrints};
 ghost use Rattle.top_call.specs.Stops.{StopsReading, StopsParsing, StopsPrinting, StopsWriting};
 ghost use Rattle.ir_types.specs.Limits.{IsWithinLimits};
 ghost use Rattle.ir_printer.specs.Text.{text_of};
 ghost use Rattle.ir_reader.specs.Reading.{Reads, ReadsBack};
 
-use crate::ending::{Done, Problem, Stop};
-use crate::lines::finish;
-use crate::refused::{excerpt_at, place_of};
+use call_lines::{Done, Problem, Stop, excerpt_at, finish, place_of};
 use ir_reader::{ReadError, read};
 use ir_types::module::Module;
 use mc_host::{Host, HostError, Sink};

@@ -6,16 +6,15 @@ ghost use Rattle.profile.specs.Counts.{IsAccepted};
 ghost use Rattle.profile.specs.Text.{prof_text};
 ghost use Rattle.interp.specs.Run.{Ran};
 ghost use Rattle.interp.specs.declared.ends.RunEnd.TheVariants as runs;
-ghost use Rattle.top_call.specs.Lines.{Answers};
+ghost use Rattle.call_lines.specs.Lines.{Answers};
 ghost use Rattle.top_call.specs.Print.{text_limit};
 ghost use Rattle.top_call.specs.World.{world};
 ghost use Rattle.top_call.specs.Run.{main_width, typed_value, RunEnds, OnlyProfiles};
 ghost use Rattle.top_call.specs.Stops.{StopsRunning, StopsProfiling};
 
 use crate::command::Asked;
-use crate::ending::{Done, Problem, Stop};
-use crate::lines::finish;
 use crate::print::{parsed, read_short, write_text};
+use call_lines::{Done, Problem, Stop, finish};
 use interp::{RunEnd, main_of};
 use ir_types::module::Module;
 use mc_host::{Host, Sink, Source};

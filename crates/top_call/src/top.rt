@@ -1,16 +1,17 @@
 //! The top call.
 ghost use Rattle.std.specs.Prelude.{◌≡◌, ◌⊎◌, ◌↔◌, ◌≤◌, ℕ, List, IsTrue, IsNone};
 ghost use Rattle.top_call.specs.Row.{row_of, texts};
-ghost use Rattle.top_call.specs.Lines.{Answers};
+ghost use Rattle.call_lines.specs.Lines.{Answers};
 ghost use Rattle.top_call.specs.World.{world};
-ghost use Rattle.top_call.specs.Top.{MayDo, Ends, Writes, IsRefused, IsAccepted, IsTrapped, IsAtLimit, IsDone, IsPartlyDone, HasReadFault, HasWriteFault, IsQuiet, HasMoved, AreRead, IsTooLarge};
+ghost use Rattle.top_call.specs.Check.{AgreesWithOpt};
+ghost use Rattle.top_call.specs.Top.{MayDo, Ends, Writes, IsRefused, IsAccepted, IsTrapped, IsAtLimit, IsDone, IsPartlyDone, HasReadFault, HasWriteFault, IsQuiet, HasMoved, AreRead, IsTooLarge, IsRowDenied};
 
+use crate::check::check_file;
 use crate::command::{Command, command_of};
-use crate::ending::Stop;
-use crate::lines::finish;
 use crate::opt::opt_file;
 use crate::print::print_file;
 use crate::run::run_file;
+use call_lines::{Stop, finish};
 use ir_reader::one_answer;
 use mc_host::{Host, Sink, Source};
 use one_optimised::one_optimised;
@@ -40,6 +41,7 @@ fn answer<H: Host, I: Source, O: Sink, E: Sink>(
         ) => print_file(alloc, host, err, file, output),
         Some(Command::Run(asked)) => run_file(alloc, host, input, out, err, asked),
         Some(Command::Opt(names)) => opt_file(alloc, host, err, names),
+        Some(Command::Check(names)) => check_file(alloc, host, err, names),
     }
 }
 
@@ -49,29 +51,35 @@ fn answer<H: Host, I: Source, O: Sink, E: Sink>(
 /// OUT; the two may be the same. `run N IN PROF` runs `main` of IN for at most N steps, from 1 to 2^62 - 1, over `input`
 /// and `out`, and where it returns writes its profile to PROF, unless PROF is `-`. `opt IN PROF OUT CERT` optimises the
 /// module of IN by its profile PROF, and writes the new module to OUT and then its certificate to CERT; OUT and CERT
-/// differ. The host lets the row read and write these files, and is asked for no other. Nothing is written to a file
-/// before each text stands whole. IN is read, and its problems are told, before PROF.
+/// differ. `check IN PROF OUT CERT` says whether OUT is the module of IN with the placements of CERT applied, and
+/// CERT shows that each of them is what it must be. The host lets the row read and write these files, and is asked for no other. Nothing is written to a file
+/// before each text stands whole. IN is read, and its problems are told, before PROF, PROF before OUT, and OUT before
+/// CERT.
 ///
 /// | Status | Comes | Line on `err` |
 /// |---|---|---|
 /// | 0 | `print`: OUT holds the text | none |
 /// | 0 | `opt`: OUT holds the text of the optimised module, and CERT its certificate | none |
+/// | 0 | `check`: the checker says yes | none |
 /// | 0 | `run`: `main` returned V, and PROF holds the profile | `mcpre: main returned V`, with neither space nor V for `void` |
 /// | 1 | IN has more than 2^26 bytes | `mcpre: IN: E1 TooLong` |
 /// | 1 | a byte of IN starts no token | `mcpre: IN:LINE: E2 BadByte 0xNN` |
 /// | 1 | the grammar stops, or a rule is broken, at a token of IN or at its end | `mcpre: IN:LINE: CODE NAME EXCERPT` |
-/// | 1 | `opt`: PROF has more than 2^26 bytes | `mcpre: PROF: P1 TooLong` |
-/// | 1 | `opt`: a line of PROF is of no form, or isn't the module's | `mcpre: PROF:LINE: CODE NAME` |
-/// | 1 | `opt`: a reached block is out of balance | `mcpre: PROF: P4 Unbalanced function F block B in X out Y` |
-/// | 1 | `opt`: an unreached block is left | `mcpre: PROF: P5 Unreached function F block B` |
-/// | 1 | `opt`: the counts sum to 2^62 or more | `mcpre: PROF: P6 Total` |
+/// | 1 | `opt`, `check`: PROF has more than 2^26 bytes | `mcpre: PROF: P1 TooLong` |
+/// | 1 | `opt`, `check`: a line of PROF is of no form, or isn't the module's | `mcpre: PROF:LINE: CODE NAME` |
+/// | 1 | `opt`, `check`: a reached block is out of balance | `mcpre: PROF: P4 Unbalanced function F block B in X out Y` |
+/// | 1 | `opt`, `check`: an unreached block is left | `mcpre: PROF: P5 Unreached function F block B` |
+/// | 1 | `opt`, `check`: the counts sum to 2^62 or more | `mcpre: PROF: P6 Total` |
+/// | 1 | `check`: OUT has more than 2^26 bytes | `mcpre: OUT: E1 TooLong` |
+/// | 1 | `check`: CERT holds no certificate; PATH is the first wrong part | `mcpre: CERT: C1 Form PATH` |
 /// | 1 | `print`: the text has more than 2^26 bytes | `mcpre: IN: E17 Grown` |
 /// | 1 | `opt`: the new text has, or a function of the new module has more than it may, or the best placements insert at 2^28 edges of a function or more | `mcpre: IN: E17 Grown` |
 /// | 1 | `run`: there is no defined `main` without parameters | `mcpre: IN: E18 NoMain` |
 /// | 2 | the words fit no row | `mcpre: usage` |
-/// | 3 | the host's count of reads that failed rose, or that of `input` | `mcpre: read fault: IN`, PROF, or `standard input` |
+/// | 3 | the host's count of reads that failed rose, or that of `input` | `mcpre: read fault: IN`, PROF, OUT, CERT, or `standard input` |
 /// | 4 | the host's count of writes that failed rose, or that of `out` | `mcpre: write fault: OUT`, PROF, CERT, or `standard output` |
 /// | 5 | an allocation was refused | `mcpre: out of memory` |
+/// | 6 | `check`: the checker says no | `mcpre: no: ` and the reason |
 /// | 7 | the run traps within N steps | `mcpre: trap NAME` |
 /// | 8 | N steps ended nothing | `mcpre: step limit N` |
 ///
@@ -121,9 +129,14 @@ pub fn mcpre<H: Host, I: Source, O: Sink, E: Sink>(
         ¬ (HasWriteFault (row_of (texts words.now)) (world (H.state host.old) (I.state input.old) (O.state out.old)) (world (H.state host.new) (I.state input.new) (O.state out.new))) →
         (result ≡ 0) ⊎ (result ≡ 5) ⊎ ((result ≡ 1) × IsTooLarge (row_of (texts words.now)) (world (H.state host.old) (I.state input.old) (O.state out.old))) }
 
+    // The checker's no is told exactly where the files that it reads don't belong together; only a fault or want of memory hides it.
+    ensures denied { IsTrue (H.state host.old).tells → result ≡ 6 → IsRowDenied (row_of (texts words.now)) (H.state host.old) }
+    ensures deny { IsTrue (H.state host.old).tells → IsRowDenied (row_of (texts words.now)) (H.state host.old) →
+        (result ≡ 6) ⊎ (result ≡ 3) ⊎ (result ≡ 5) }
+
     // What each status leaves.
     ensures done { IsTrue (H.state host.old).tells → result ≡ 0 → IsDone (row_of (texts words.now)) (world (H.state host.old) (I.state input.old) (O.state out.old)) (world (H.state host.new) (I.state input.new) (O.state out.new)) }
-    ensures untouched { (result ≡ 1) ⊎ (result ≡ 2) ⊎ (result ≡ 3) ⊎ (result ≡ 7) ⊎ (result ≡ 8) → (H.state host.new).file ≡ (H.state host.old).file }
+    ensures untouched { (result ≡ 1) ⊎ (result ≡ 2) ⊎ (result ≡ 3) ⊎ (result ≡ 6) ⊎ (result ≡ 7) ⊎ (result ≡ 8) → (H.state host.new).file ≡ (H.state host.old).file }
     ensures partly { IsTrue (H.state host.old).tells → (result ≡ 4) ⊎ (result ≡ 5) → IsPartlyDone (row_of (texts words.now)) (world (H.state host.old) (I.state input.old) (O.state out.old)) (world (H.state host.new) (I.state input.new) (O.state out.new)) }
 
     // No other file changes.
@@ -135,7 +148,13 @@ pub fn mcpre<H: Host, I: Source, O: Sink, E: Sink>(
     ensures moved { IsTrue (H.state host.old).tells → HasMoved (row_of (texts words.now)) (world (H.state host.old) (I.state input.old) (O.state out.old)) (world (H.state host.new) (I.state input.new) (O.state out.new)) }
 {
     one_answer();
+    certificate::one_answer();
     profile::one_answer();
     one_optimised();
     answer(alloc, words, host, input, out, err)
 }
+
+/// The checker says yes to what `opt` left, where it is given the files that `opt` read and those that it wrote.
+pub fn check_agrees_with_opt()
+    ensures { AgreesWithOpt }
+{}

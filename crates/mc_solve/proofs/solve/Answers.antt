@@ -1,4 +1,4 @@
-use Rattle.std.proofs.Common.{Bool, false, List, get_or, subst, arith}
+use Rattle.std.proofs.Common.{Bool, false, List, get_or, refl, subst, arith}
 use Rattle.best_placement.specs.Laws.{IsReadOffOn}
 use Rattle.function_graphs.specs.Graphs.{graph_of}
 use Rattle.mc_solve.specs.declared.Solved.{Solved}
@@ -25,10 +25,25 @@ returns-clause-best g c =
     best f c.args.points.now c.args.table.now c.args.e c.args.counts.now has.reached has.event has.is _ c.in_ok-nets.nets.full.net n
     (returns-clause-solved g c has.reached has.event c.in_ok-nets.nets.full.net has.is n)
 
-pub returns-clause-certified : goal.returns-clause-certified
-returns-clause-certified g c reached event net is n =
-    certifies c.args.function.now c.args.points.now c.args.counts.now reached event net (record { placement = c.in_ok-placement.placement; flow = c.in_ok-flow.flow; cut = c.in_ok-cut.cut })
-    (returns-clause-solved g c reached event net is n)
+pub returns-clause-shown : goal.returns-clause-shown
+returns-clause-shown g c =
+    let s : Solved = record { placement = c.in_ok-placement.placement; flow = c.in_ok-flow.flow; cut = c.in_ok-cut.cut } in
+    let net = c.in_ok-nets.nets.full.net in
+    let network = c.in_ok-nets.ensures.network in
+    record {
+      net = net;
+      valid = c.in_ok-nets.ensures.valid;
+      within = c.in_ok-flow.ensures.maximum.within;
+      ranks = c.in_ok-cut.ensures.ranks.len;
+      ends = (
+        c.in_ok-cut.ensures.ranks.others 0 c.in_ok-cut.ensures.least.0.1,
+        let fewest = c.in_ok-cut.ensures.ranks.fewest 0 1 refl in omega (arith, fewest),
+      );
+      network = network;
+      certifies = λ reached event is.
+          certifies c.args.function.now c.args.points.now c.args.counts.now reached event net s
+          (returns-clause-solved g c reached event net is (network reached event is));
+    }
 
 -- the phases are those of the needed part
 pub returns-in_err-cut-clause-needed_phases : goal.returns-in_err-cut-clause-needed_phases

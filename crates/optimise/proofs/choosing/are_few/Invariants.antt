@@ -1,5 +1,5 @@
 use Rattle.std.proofs.Common.{◌≡◌, ◌+◌, ◌-◌, ◌^◌, take}
-use Rattle.optimise.specs.Choice.{insertions}
+use Rattle.certified.specs.Certified.{insertions}
 use Rattle.optimise.proofs.choosing.are_few.Given as goal
 
 abbrev pub invariant-loop-placement : goal.invariant-loop-placement

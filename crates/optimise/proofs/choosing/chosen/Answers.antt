@@ -1,19 +1,17 @@
 use Rattle.std.proofs.Common.{◌≡◌, length, subst, arith}
-use Rattle.optimise.specs.Placing.{AreChosenSoFar}
-use Rattle.optimise.proofs.Chosen.{none_chosen, one_more, all_chosen}
+use Rattle.optimise.specs.Placing.{AreChosenEntries}
+use Rattle.optimise.proofs.Chosen.{none_chosen, one_more}
 use Rattle.optimise.proofs.choosing.chosen.Goals as goal
 
 pub loop-e-init : goal.loop-e-init
-loop-e-init c = rw c.new-placements.ensures.items (none_chosen c.args.function.now c.args.points.now c.args.table.now c.args.counts.now)
+loop-e-init c = rw c.new-entries.ensures.items (none_chosen c.args.function.now c.args.points.now c.args.table.now c.args.counts.now)
 
 pub loop-e-preserved : goal.loop-e-preserved
 loop-e-preserved c =
     rw c.in_ok-push.ensures.items
-    (one_more c.args.function.now c.args.points.now c.args.table.now c.args.counts.now c.loop-e.e c.loop-e.placements.items c.in_ok-choice.field-0 c.loop-e.invariant c.in_ok-choice.ensures)
+    (one_more c.args.function.now c.args.points.now c.args.table.now c.args.counts.now c.loop-e.e c.loop-e.entries.items c.in_ok-choice.field-0 c.loop-e.invariant c.in_ok-choice.ensures)
 
 pub returns : goal.returns
 returns c =
-    let f = c.args.function.now in
     let n : c.loop-e.e ≡ length c.args.table.now.exprs = omega arith in
-    all_chosen f c.args.points.now c.args.table.now c.args.counts.now c.loop-e.placements.items
-    (subst (λ n. AreChosenSoFar f c.args.points.now c.args.table.now c.args.counts.now n c.loop-e.placements.items) n c.loop-e.invariant)
+    subst (λ n. AreChosenEntries c.args.function.now c.args.points.now c.args.table.now c.args.counts.now n c.loop-e.entries.items) n c.loop-e.invariant

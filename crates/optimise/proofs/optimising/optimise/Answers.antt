@@ -1,6 +1,6 @@
 use Rattle.std.proofs.Common.{length}
-use Rattle.optimise.specs.Placing.{ArePlacedSoFar}
-use Rattle.optimise.proofs.Growing.{each_placed}
+use Rattle.optimise.specs.Placing.{ChosenSoFar}
+use Rattle.optimise.proofs.Growing.{all_small, each_chosen, each_good}
 use Rattle.optimise.proofs.Sound.{MoveLaws, each_sound}
 use Rattle.optimise.proofs.optimising.optimise.Goals as goal
 
@@ -8,15 +8,25 @@ pub apply-requires-clause-placed : goal.apply-requires-clause-placed
 apply-requires-clause-placed c =
     let m = c.args.program.now in
     let counts = c.args.profile.now.functions in
-    let placed = c.in_ok-placed.placed.items in
+    let chosen = c.in_ok-chosen.chosen.items in
     let laws : MoveLaws = record { told = c.placed_is_told.ensures.told; occurs = c.placed_is_told.ensures.occurs; numbered = c.points_are_told.ensures; is_move = c.placed_is_move.ensures } in
-    let all : ArePlacedSoFar m counts (length m.functions) placed = rw c.as_slice.ensures at c.in_ok-placed.ensures.placed in
-    rw c.deref.ensures.value (each_sound laws m counts placed (each_placed m counts placed all))
+    let all : ChosenSoFar m counts (length m.functions) chosen = rw c.as_slice.ensures at c.in_ok-chosen.ensures.chosen in
+    rw (c.deref.ensures.value, c.in_ok-parts.ensures.placed) (each_sound laws m counts _ (each_chosen m counts chosen all))
 
 pub returns-clause-optimised : goal.returns-clause-optimised
 returns-clause-optimised c =
     let m = c.args.program.now in
     let counts = c.args.profile.now.functions in
-    let placed = c.in_ok-placed.placed.items in
-    let all : ArePlacedSoFar m counts (length m.functions) placed = rw c.as_slice.ensures at c.in_ok-placed.ensures.placed in
-    record { placed = placed; are_chosen = each_placed m counts placed all; transformed = rw c.deref.ensures.value at c.in_ok-apply.ensures }
+    let chosen = c.in_ok-chosen.chosen.items in
+    let all : ChosenSoFar m counts (length m.functions) chosen = rw c.as_slice.ensures at c.in_ok-chosen.ensures.chosen in
+    record {
+      placed = c.in_ok-parts.parts.placed.items;
+      are_chosen = rw c.in_ok-parts.ensures.placed (each_chosen m counts chosen all);
+      each_good = rw (c.in_ok-parts.ensures.placed, c.in_ok-parts.ensures.functions) (each_good m counts chosen all);
+      transformed = rw c.deref.ensures.value at c.in_ok-module.ensures;
+    }
+
+pub returns-clause-within : goal.returns-clause-within
+returns-clause-within c =
+    let all : ChosenSoFar c.args.program.now c.args.profile.now.functions _ c.in_ok-chosen.chosen.items = c.in_ok-chosen.ensures.chosen in
+    rw c.in_ok-parts.ensures.functions (all_small c.in_ok-chosen.chosen.items all.within)

@@ -1,7 +1,7 @@
 use Rattle.std.proofs.Common.{Option, Err, refl, sym, ap, subst, ◌∙◌}
 use Rattle.std.specs.Prelude.{option_map}
 use Rattle.top_call.specs.declared.command.Command.{Command}
-use Rattle.top_call.specs.declared.ending.Stop.TheVariants.{Usage}
+use Rattle.call_lines.specs.declared.ending.Stop.TheVariants.{Usage}
 use Rattle.top_call.specs.Command.{row_of_command}
 use Rattle.top_call.specs.Row.{Row}
 use Rattle.top_call.specs.Top.{Ends}

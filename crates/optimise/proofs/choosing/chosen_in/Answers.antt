@@ -1,0 +1,23 @@
+use Rattle.std.proofs.Common.{IsTrue, false, sym, subst, ◌∙◌}
+use Rattle.certified.specs.Certified.{AreFew}
+use Rattle.optimise.proofs.Chosen.{all_chosen, chosen_in, crowded}
+use Rattle.optimise.proofs.choosing.chosen_in.Goals as goal
+
+never : IsTrue false → ⊥
+never told = cc
+
+pub returns-then-not-are_few-clause-unplaced : goal.returns-then-not-are_few-clause-unplaced
+returns-then-not-are_few-clause-unplaced c =
+    let f = c.args.function.now in
+    let p = c.in_ok-points.points in
+    let t = c.in_ok-table.table in
+    let named = c.in_ok-placements.ensures in
+    crowded c.args.program.now f c.args.counts.now p t c.in_ok-placements.placements.items
+    c.in_ok-points.ensures c.in_ok-table.ensures.module_of c.in_ok-table.ensures.table
+    (rw (c.deref.ensures.value, named) (all_chosen f p t c.args.counts.now c.in_ok-entries.entries.items c.in_ok-entries.ensures))
+    (λ few. never (subst IsTrue c.if-not-are_few.true (c.are_few.ensures.1 (subst AreFew (sym c.deref-2.ensures.value) few))))
+
+pub returns-clause-chosen : goal.returns-clause-chosen
+returns-clause-chosen c =
+    chosen_in c.args.program.now c.args.function.now c.args.counts.now c.in_ok-points.points c.in_ok-table.table c.in_ok-entries.entries.items c.in_ok-placements.placements.items
+    c.in_ok-points.ensures c.in_ok-table.ensures.module_of c.in_ok-table.ensures.table c.in_ok-entries.ensures (rw c.deref.ensures.value at c.in_ok-placements.ensures) (record {})

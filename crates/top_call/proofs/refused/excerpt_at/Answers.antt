@@ -1,5 +1,0 @@
-use Rattle.top_call.proofs.Excerpts.{excerpt_is}
-use Rattle.top_call.proofs.refused.excerpt_at.Goals as goal
-
-pub returns : goal.returns
-returns c = excerpt_is c.args.source.now c.args.span.start c.args.span.end c.min-end.result c.min-start.result c.min-end.ensures c.min-start.ensures c.min.result c.min.ensures
