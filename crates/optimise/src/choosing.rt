@@ -146,7 +146,7 @@ fn choice(
 }
 
 /// For each expression the entry with the placement that is chosen by the counts of the function.
-fn chosen(
+fn entries(
     alloc: Global,
     function: &Function<'_>,
     points: &Points,
@@ -196,7 +196,7 @@ pub(crate) fn chosen_in<'m, 'a>(
 {
     let points = points(alloc, function)?;
     let table = table(alloc, program, function, &points)?;
-    let entries = chosen(alloc, function, &points, &table, counts)?;
+    let entries = entries(alloc, function, &points, &table, counts)?;
     let placements = placements_of(alloc, &entries)?;
     if !are_few(&placements) {
         return Err(OptimiseError::TooMany);

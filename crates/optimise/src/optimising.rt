@@ -56,7 +56,7 @@ struct Parts<'m, 'a> {
 }
 
 /// What is chosen in the functions, part by part.
-fn parts<'m, 'a>(
+fn split<'m, 'a>(
     alloc: Global,
     chosen: Vec<Chosen<'m, 'a>>,
 ) -> Result<Parts<'m, 'a>, NoMemory>
@@ -92,7 +92,7 @@ pub fn optimise<'a>(
     placed_is_told();
     points_are_told();
     let chosen = all_chosen(alloc, program, profile.functions.as_slice())?;
-    let parts = parts(alloc, chosen)?;
+    let parts = split(alloc, chosen)?;
     let module = apply(alloc, program, &parts.placed)?;
     Ok(Optimised {
         module,

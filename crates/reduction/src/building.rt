@@ -57,6 +57,7 @@ pub fn network(
     ensures network { IfOk result (λ full. IsFullNetwork function.now points.now counts.now sets.now full) }
     ensures valid { IfOk result (λ full. IsValid full.net) }
     ensures few { IfOk result (λ full. length full.net.arcs.items < 2 ^ 32) }
+    ensures bounded { IfOk result (λ full. full.constant < 2 ^ 104) }
 {
     events_exist();
     sets_agree();

@@ -122,3 +122,9 @@ returns-clause-few c =
     let same = ap length c.as_slice-blocks.ensures in
     few_arcs c.args.function.now c.args.points.now c.args.counts.now c.args.sets.now c.requires.defined c.requires.points c.requires.slots c.requires.sets c.loop-place.arcs c.loop-place.constant (2 + 2 * length c.as_slice-blocks.result.now) c.loop-place.place
     (omega (arith, same, c.loop-place-test.false)) c.loop-place.invariant (omega (arith, same))
+
+pub returns-clause-bounded : goal.returns-clause-bounded
+returns-clause-bounded c =
+    let all = forced_fit c.args.function.now c.args.points.now c.args.sets.now c.requires.points c.requires.sets in
+    let small = c.loop-place.invariant.small in
+    omega (arith, small, all)

@@ -1,7 +1,7 @@
 use Rattle.std.proofs.Common.{◌≡◌, length, subst, arith}
 use Rattle.optimise.specs.Placing.{AreChosenEntries}
 use Rattle.optimise.proofs.Chosen.{none_chosen, one_more}
-use Rattle.optimise.proofs.choosing.chosen.Goals as goal
+use Rattle.optimise.proofs.choosing.entries.Goals as goal
 
 pub loop-e-init : goal.loop-e-init
 loop-e-init c = rw c.new-entries.ensures.items (none_chosen c.args.function.now c.args.points.now c.args.table.now c.args.counts.now)
