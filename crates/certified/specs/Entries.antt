@@ -10,7 +10,6 @@ use Rattle.expressions.specs.Tables.{IsEventOf}
 use Rattle.profile.specs.declared.counts.FnCounts.{FnCounts}
 use Rattle.flow_net.specs.declared.Net.{Net}
 use Rattle.flow_net.specs.declared.Flow.{Flow}
-use Rattle.placement.specs.declared.placements.Placement.{Placement}
 use Rattle.placement.specs.Placements.{arcs_of, IsCorrect, IsSafe}
 use Rattle.best_choice.specs.Best.{IsPlacementOn}
 use Rattle.best_placement.specs.Laws.{ExpressionGraph, Certifies, IsBlockNetwork}
@@ -36,9 +35,10 @@ pub record Shows (g : ExpressionGraph) (net : Net) (entry : Entry) : Type 0 wher
   pub certifies : Certifies g net flow (rank_in ranks) entry.placement
 
 -- they do so in the block network of expression x of a function, by the counts of the function
-abbrev pub CertifiesIn : Function → Points → Kept → FnCounts → ℕ → Entry → Type 0
-CertifiesIn f p t counts x entry = (reached : ℕ → Bool) (event : ℕ → Event) (net : Net) → IsIn f p t x reached event
-    → IsBlockNetwork (graph_of f p counts reached event) net → Shows (graph_of f p counts reached event) net entry
+pub record CertifiesIn (f : Function) (p : Points) (t : Kept) (counts : FnCounts) (x : ℕ) (entry : Entry) : Type 0 where
+  pub net : Net
+  pub network : (reached : ℕ → Bool) (event : ℕ → Event) → IsIn f p t x reached event → IsBlockNetwork (graph_of f p counts reached event) net
+  pub shows : (reached : ℕ → Bool) (event : ℕ → Event) → IsIn f p t x reached event → Shows (graph_of f p counts reached event) net entry
 
 -- expression x of the table can't trap, or can
 abbrev pub IsPlain : Kept → ℕ → Type 0
