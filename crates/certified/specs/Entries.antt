@@ -10,7 +10,6 @@ use Rattle.expressions.specs.Tables.{IsEventOf}
 use Rattle.profile.specs.declared.counts.FnCounts.{FnCounts}
 use Rattle.flow_net.specs.declared.Net.{Net}
 use Rattle.flow_net.specs.declared.Flow.{Flow}
-use Rattle.placement.specs.declared.placements.Placement.{Placement}
 use Rattle.placement.specs.Placements.{arcs_of, IsCorrect, IsSafe}
 use Rattle.best_choice.specs.Best.{IsPlacementOn}
 use Rattle.best_placement.specs.Laws.{ExpressionGraph, Certifies, IsBlockNetwork}

@@ -1,6 +1,2 @@
-pub mod Lists
-pub mod Alike
-pub mod Readings
 pub mod Choices
-pub mod Moving
 pub mod Whole

@@ -1,10 +1,19 @@
 -- Two readings of points and events that say the same have the same best placements.
-use Rattle.std.proofs.Common.{ℕ, List}
-use Rattle.expressions.specs.declared.syntax.Event.{Event}
+use Rattle.std.proofs.Common.{◌+◌, ℕ, List, length, subst}
+use Rattle.ir_types.specs.declared.syntax.Function.{Function}
 use Rattle.flow_paths.specs.Paths.{Place, at_point, on_edge}
+use Rattle.profile.specs.declared.counts.FnCounts.{FnCounts}
+use Rattle.point_graph.specs.declared.graph.Edge.{Edge}
+use Rattle.point_graph.specs.declared.graph.Point.{Point}
+use Rattle.point_graph.specs.declared.graph.Points.{Points}
+use Rattle.expressions.specs.declared.syntax.Event.{Event}
+use Rattle.expressions.specs.Kept.{Kept}
+use Rattle.expressions.specs.Tables.{IsEventOf}
 use Rattle.placement.specs.declared.placements.Placement.{Placement}
-use Rattle.placement.specs.Placements.{Writes, Kills, IsCorrect, IsLiveAt}
-use Rattle.best_choice.specs.Best.{IsPlacementOn, LivesWithin, IsBestBy}
+use Rattle.placement.specs.Costs.{edges_cost, points_cost}
+use Rattle.placement.specs.Placements.{arcs_of, Writes, Kills, IsCorrect, IsLiveAt}
+use Rattle.best_choice.specs.Best.{IsPlacementOn, LivesWithin, IsBestBy, IsBestIn}
+use Rattle.one_transformed.specs.Numberings.{AreSame}
 
 -- what one says the other says
 abbrev pub Says : (ℕ → Event → Type 0) → (ℕ → Event → Type 0) → Type 0
@@ -60,10 +69,17 @@ module _ (Is Js : ℕ → Event → Type 0) (to : Says Is Js) (back : Says Js Is
     λ e lt live. let there = within.1 e lt (live.0, live_to Js Is back to arcs p _ live.1) in (there.0, live_to Is Js to back arcs q _ there.1),
   )
 
-  pub best_to : (cost : Placement → ℕ) (p : Placement) → IsBestBy arcs n Is cost p → IsBestBy arcs n Js cost p
+  best_to : (cost : Placement → ℕ) (p : Placement) → IsBestBy arcs n Is cost p → IsBestBy arcs n Js cost p
   best_to cost p best = record {
     placement = placement_to Is Js to back arcs n p best.placement;
     correct = correct_to Is Js to back arcs p best.correct;
     cheapest = λ q is correct. best.cheapest q (placement_to Js Is back to arcs n q is) (correct_to Js Is back to arcs q correct);
     lives_least = λ q is correct same. lives_within p q (best.lives_least q (placement_to Js Is back to arcs n q is) (correct_to Js Is back to arcs q correct) same);
   }
+
+pub best_stays : (f : Function) (p p' : Points) (t t' : Kept) (x : ℕ) (counts : FnCounts) (placement : Placement) → AreSame f p p' t t' → IsBestIn f p t x counts placement → IsBestIn f p' t' x counts placement
+best_stays f p p' t t' x counts placement same best reached are =
+    let here = best_to (IsEventOf f p t x) (IsEventOf f p' t' x) (λ v event. (same.events x v event).0) (λ v event. (same.events x v event).1)
+    (arcs_of p.edges) (length p.points) (λ q. edges_cost f counts reached p.edges q.inserted + points_cost f counts reached p.points q.kept) placement (best reached are) in
+    let IsBest : List Edge → List Point → Type 0 = λ edges points. IsBestBy (arcs_of edges) (length points) (IsEventOf f p' t' x) (λ q. edges_cost f counts reached edges q.inserted + points_cost f counts reached points q.kept) placement in
+    subst (λ points. IsBest p'.edges points) same.points (subst (λ edges. IsBest edges p.points) same.edges here)

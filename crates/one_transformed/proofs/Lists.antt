@@ -31,13 +31,6 @@ same_places [] (y ∷ ys) same = absurd (none-some y (same 0))
 same_places (x ∷ xs) [] same = absurd (none-some x (sym (same 0)))
 same_places (x ∷ xs) (y ∷ ys) same = ap (λ z. z ∷ xs) (same_Some x y (same 0)) ∙ ap (λ l. y ∷ l) (same_places xs ys (λ i. same (suc i)))
 
--- lists of one length that agree at each place
-pub same_listed : {X : Type 0} (xs ys : List X) → length xs ≡ length ys → ((i : ℕ) (x y : X) → slice_get xs i ≡ Some x → slice_get ys i ≡ Some y → x ≡ y) → xs ≡ ys
-same_listed [] [] count same = refl
-same_listed [] (y ∷ ys) count same = absurd (omega (arith, count))
-same_listed (x ∷ xs) [] count same = absurd (omega (arith, count))
-same_listed (x ∷ xs) (y ∷ ys) count same = ap (λ z. z ∷ xs) (same 0 x y refl refl) ∙ ap (λ l. y ∷ l) (same_listed xs ys (omega (arith, count)) (λ i. same (suc i)))
-
 -- two places of one element are one
 one_place : {X : Type 0} (xs : List X) → AllPairs (λ x y. x ≢ y) xs → (i j : ℕ) (x : X) → slice_get xs i ≡ Some x → slice_get xs j ≡ Some x → i ≡ j
 one_place {X} xs differ i j x e f = by (cases_lt i j) (cases_lt j i)

@@ -5,7 +5,6 @@ use Rattle.std.specs.List.{AllZip}
 use Rattle.std.proofs.lemmas.Bool.{cases_lt}
 use Rattle.std.proofs.lemmas.List.Elements.{Contains-append_right}
 use Rattle.std.proofs.lemmas.Option.{slice_get_within, same_Some}
-use Rattle.ir_types.specs.Program.{Program}
 use Rattle.ir_types.specs.declared.syntax.Function.{Function}
 use Rattle.point_graph.specs.Graph.{Point, Place, Edge, Inside, IsReached}
 use Rattle.point_graph.specs.Numbers.{ArePoints, all_edges, point_of}
@@ -13,26 +12,29 @@ use Rattle.point_graph.specs.declared.graph.Points.{Points}
 use Rattle.point_numbers.specs.Told.{AreTold}
 use Rattle.expressions.specs.Kept.{Kept}
 use Rattle.expressions.specs.Tables.{IsTable, IsEventOf}
-use Rattle.profile.specs.declared.counts.FnCounts.{FnCounts}
 use Rattle.placement.specs.declared.placements.Placement.{Placement}
 use Rattle.placement.specs.Placements.{arcs_of, IsLiveAt}
-use Rattle.placed_moves.specs.Placed.{IsPoint, IsEdge, IsPlaced}
+use Rattle.placed_moves.specs.Placed.{IsPoint, IsEdge, IsPlaced, IsTold}
 use Rattle.applied.specs.Motion.{OccursIn, Move}
 use Rattle.applied.specs.Applied.{Plan, IsFreshPrefix, is_stored}
 use Rattle.applied.proofs.Living.{reached_next}
 use Rattle.planning.specs.PlanOf.{IsNeeded, HasMove}
 use Rattle.transform.specs.declared.placed.Placed.{Placed}
 use Rattle.transform.specs.Transformed.{IsPlanOfPlaced}
-use Rattle.optimise.specs.Choice.{AreChosen}
-use Rattle.optimise.proofs.Sound.{MoveLaws}
-use Rattle.one_optimised.proofs.Lists.{same_bool}
-use Rattle.one_optimised.proofs.Readings.{live_to}
-use Rattle.one_optimised.proofs.Choices.{ChoiceLaws, AreSame, turned, event_there, same_parts, one_chosen}
-use Rattle.one_optimised.proofs.Alike.{IsAlike, AreAlike}
+use Rattle.one_transformed.specs.Numberings.{AreSame}
+use Rattle.one_transformed.proofs.Lists.{same_bool}
+use Rattle.one_transformed.proofs.Numbering.{NumbersTold, turned}
+use Rattle.one_transformed.proofs.Readings.{live_to}
+use Rattle.one_transformed.proofs.Alike.{IsAlike, AreAlike}
+
+-- what the laws of the crates below say of numbers and of moves
+pub record PlacedLaws : Type 0 where
+  pub numbered : NumbersTold
+  pub told : (f : Function) (p : Points) (t : Kept) (x : ℕ) (placement : Placement) (move : Move) → 0 < length f.blocks → ArePoints f p → IsTable f p t → IsPlaced f p t x placement move → IsTold t.module_of f move
 
 -- ---- two moves by one placement
 
-module _ (f : Function) (p p' : Points) (t t' : Kept) (same : AreSame p p' t t') (x : ℕ) (placement : Placement) (move other : Move) (is : IsPlaced f p t x placement move) (also : IsPlaced f p' t' x placement other) where
+module _ (f : Function) (p p' : Points) (t t' : Kept) (same : AreSame f p p' t t') (x : ℕ) (placement : Placement) (move other : Move) (is : IsPlaced f p t x placement move) (also : IsPlaced f p' t' x placement other) where
   pub point_there : (i : ℕ) (v : Point) → IsPoint f p i v → IsPoint f p' i v
   point_there i v at = subst (λ l. slice_get (map (point_of f) l) i ≡ Some v) same.points at
 
@@ -47,22 +49,22 @@ module _ (f : Function) (p p' : Points) (t t' : Kept) (same : AreSame p p' t t')
   kept_to : (v : Point) → move.kept v ≡ true → other.kept v ≡ true
   kept_to v kept =
       let i = (is.kept_is v).0 kept in
-      (also.kept_is v).1 (i.0, point_there i.0 v i.1, event_there f p p' t t' same x i.0 _ i.2, i.3)
+      (also.kept_is v).1 (i.0, point_there i.0 v i.1, (same.events x i.0 _).0 i.2, i.3)
 
   deleted_to : (v : Point) → move.deleted v ≡ true → other.deleted v ≡ true
   deleted_to v deleted =
       let i = (is.deleted_is v).0 deleted in
-      (also.deleted_is v).1 (i.0, point_there i.0 v i.1, (event_there f p p' t t' same x i.0 _ i.2.0, i.2.1))
+      (also.deleted_is v).1 (i.0, point_there i.0 v i.1, ((same.events x i.0 _).0 i.2.0, i.2.1))
 
   live_there : (i : ℕ) (v : Point) → IsPoint f p i v → move.live v ≡ true → other.live v ≡ true
   live_there i v at live =
-      let here = live_to (IsEventOf f p t x) (IsEventOf f p' t' x) (event_there f p p' t t' same x) (event_there f p' p t' t (turned p p' t t' same) x) (arcs_of p.edges) placement i ((is.live_is i v at).0 live) in
+      let here = live_to (IsEventOf f p t x) (IsEventOf f p' t' x) (λ v event. (same.events x v event).0) (λ v event. (same.events x v event).1) (arcs_of p.edges) placement i ((is.live_is i v at).0 live) in
       (also.live_is i v (point_there i v at)).1 (subst (λ edges. IsLiveAt (arcs_of edges) (IsEventOf f p' t' x) placement i) same.edges here)
 
-module _ (laws : MoveLaws) (f : Function) (p p' : Points) (t t' : Kept) (same : AreSame p p' t t') (x : ℕ) (placement : Placement) (move other : Move) (is : IsPlaced f p t x placement move) (also : IsPlaced f p' t' x placement other)
+module _ (laws : PlacedLaws) (f : Function) (p p' : Points) (t t' : Kept) (same : AreSame f p p' t t') (x : ℕ) (placement : Placement) (move other : Move) (is : IsPlaced f p t x placement move) (also : IsPlaced f p' t' x placement other)
     (defined : 0 < length f.blocks) (are : ArePoints f p) (table : IsTable f p t) where
-  abbrev back : AreSame p' p t' t
-  back = turned p p' t t' same
+  abbrev back : AreSame f p' p t' t
+  back = turned f p p' t t' same
 
   pub inserted_same : (edge : Edge) → move.inserted edge ≡ other.inserted edge
   inserted_same edge = same_bool (move.inserted edge) (other.inserted edge) (inserted_to f p p' t t' same x placement move other is also edge) (inserted_to f p' p t' t back x placement other move also is edge)
@@ -182,18 +184,18 @@ one_prefix f i j is also = by (cases_lt i j) (cases_lt j i)
 -- ---- the plans of a function
 
 -- what is needed by one is needed by the other
-needed_there : (f : Function) (p p' : Points) (t t' : Kept) (same : AreSame p p' t t') (x : ℕ) (placement : Placement) → IsNeeded f p t x placement → IsNeeded f p' t' x placement
+needed_there : (f : Function) (p p' : Points) (t t' : Kept) (same : AreSame f p p' t t') (x : ℕ) (placement : Placement) → IsNeeded f p t x placement → IsNeeded f p' t' x placement
 needed_there f p p' t t' same x placement (inl inserted) = inl inserted
-needed_there f p p' t t' same x placement (inr deleted) = inr (deleted.0, (event_there f p p' t t' same x deleted.0 _ deleted.1.0, deleted.1.1))
+needed_there f p p' t t' same x placement (inr deleted) = inr (deleted.0, ((same.events x deleted.0 _).0 deleted.1.0, deleted.1.1))
 
-module _ (f : Function) (q q' : Placed) (same : AreSame q.points q'.points q.table q'.table) (placements : q.placements ≡ q'.placements) (plan other : Plan) (plan_of : IsPlanOfPlaced plan f q) (other_of : IsPlanOfPlaced other f q') where
+module _ (f : Function) (q q' : Placed) (same : AreSame f q.points q'.points q.table q'.table) (placements : q.placements ≡ q'.placements) (plan other : Plan) (plan_of : IsPlanOfPlaced plan f q) (other_of : IsPlanOfPlaced other f q') where
   partner : (move : Move) → Contains plan.moves move → HasMove other.moves move.number
   partner move among =
       let of = plan_of.moves move among in
       other_of.every move.number of.placement (subst (λ l. slice_get l move.number ≡ Some of.placement) placements of.there)
       (needed_there f q.points q'.points q.table q'.table same move.number of.placement of.needed)
 
-module _ (laws : MoveLaws) (f : Function) (q q' : Placed) (same : AreSame q.points q'.points q.table q'.table) (placements : q.placements ≡ q'.placements) (plan other : Plan) (plan_of : IsPlanOfPlaced plan f q) (other_of : IsPlanOfPlaced other f q')
+module _ (laws : PlacedLaws) (f : Function) (q q' : Placed) (same : AreSame f q.points q'.points q.table q'.table) (placements : q.placements ≡ q'.placements) (plan other : Plan) (plan_of : IsPlanOfPlaced plan f q) (other_of : IsPlanOfPlaced other f q')
     (defined : 0 < length f.blocks) (are : ArePoints f q.points) (table : IsTable f q.points q.table) where
   alike_moves : (move next : Move) → Contains plan.moves move → Contains other.moves next → move.number ≡ next.number → IsAlike plan.naming other.naming move next
   alike_moves move next among among' number =
@@ -216,14 +218,9 @@ module _ (laws : MoveLaws) (f : Function) (q q' : Placed) (same : AreSame q.poin
         stored = stored_same laws f q.points q'.points q.table q'.table same move.number of.placement move next of.placed placed defined are table;
       }
 
-  plans_of : AreAlike plan other
+  pub plans_of : AreAlike plan other
   plans_of =
       paired (IsAlike plan.naming other.naming) plan.moves other.moves plan_of.ascending other_of.ascending
       (partner f q q' same placements plan other plan_of other_of)
-      (partner f q' q (turned q.points q'.points q.table q'.table same) (sym placements) other plan other_of plan_of)
+      (partner f q' q (turned f q.points q'.points q.table q'.table same) (sym placements) other plan other_of plan_of)
       alike_moves
-
-pub plans_alike : MoveLaws → ChoiceLaws → (m : Program) (f : Function) → 0 < length f.blocks → (counts : FnCounts) (q q' : Placed) → AreChosen m f counts q → AreChosen m f counts q'
-    → (plan other : Plan) → IsPlanOfPlaced plan f q → IsPlanOfPlaced other f q' → AreAlike plan other
-plans_alike laws choices m f defined counts q q' is also plan other plan_of other_of =
-    plans_of laws f q q' (same_parts laws choices m f defined counts q q' is also) (one_chosen laws choices m f defined counts q q' is also) plan other plan_of other_of defined is.are_points is.is_table
