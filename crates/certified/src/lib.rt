@@ -1,7 +1,11 @@
 //! When a certificate is that of a module and its counts.
 #![tactic(auto)]
 
+mod placements;
+
 ghost use Rattle.certified.specs.Laws.{CertifiedAreBest, GoodIsBest, OneCertified};
+
+pub use placements::placements_of;
 
 use function_graphs::{certified_is_best, events_exist};
 use one_transformed::{best_stays, one_numbering, one_transformed};
