@@ -58,7 +58,7 @@ module _ (f : Function) (p : Points) (t : Kept) (counts : FnCounts) where
   pub all_chosen : (entries : List Entry) → AreChosenEntries f p t counts (length t.exprs) entries → AreEachChosen f p t counts (placements_in entries)
   all_chosen entries are = record {
     count = length-map entries (λ (e : Entry). e.placement) ∙ are.count;
-    each = λ x placement there. let e = named entries x placement there in subst (IsChosen f p t counts x) e.2.1 (are.each x e.0 e.2.0).chosen;
+    each = λ x placement there. let e = named entries x placement there in subst (IsChosen f p t counts x) e.2 (are.each x e.0 e.1).chosen;
   }
 
   pub all_within : (n : ℕ) (entries : List Entry) → AreChosenEntries f p t counts n entries → AllByRecursion EntryIsWithin entries

@@ -55,7 +55,7 @@ ranks_read (a ∷ b ∷ rest) inner split two source sink v =
 pub ranks_counted : (ranks inner : List ℕ) → take 2 ranks ++ inner ≡ ranks → 2 ≤ length ranks → 2 + length inner ≡ length ranks
 ranks_counted [] inner split two = absurd (omega (arith, two))
 ranks_counted (a ∷ []) inner split two = absurd (omega (arith, two))
-ranks_counted (a ∷ b ∷ rest) inner split two = ap (λ (l : List ℕ). length l) split
+ranks_counted (a ∷ b ∷ rest) inner split two = let l = ap (λ (l : List ℕ). length l) split in omega (arith, l)
 
 -- ---- amounts
 
@@ -75,61 +75,62 @@ small_amounts net flow valid within = small net.arcs.items flow.amounts.items wi
 
 -- ---- entries
 
-module _ (f : Function) (p : Points) (t : Kept) (x : ℕ) (counts : FnCounts) (are : ArePoints f p) where
+module _ (f : Function) (p : Points) (t : Kept) (x : ℕ) (are : ArePoints f p) where
   few_arcs : length (arcs_of p.edges) ≤ 2 ^ 32
   few_arcs = omega (arith, arcs_length p.edges, are.few)
 
   few_points : length p.points ≤ 2 ^ 32
   few_points = omega (arith, are.few)
 
-  best_placed : (placement : Placement) → IsBestIn f p t x counts placement → IsPlacementOn (arcs_of p.edges) (length p.points) (IsEventOf f p t x) placement
-  best_placed placement best = (best are.blocks.test are.blocks.told).placement
-
-  -- what was solved, as an entry
-  pub best_entry : (s : Solved) (inner : List ℕ) → take 2 s.cut.rank.items ++ inner ≡ s.cut.rank.items → AllBelow (2 ^ 32) inner → IsBestIn f p t x counts s.placement → IsShown f p t x counts s
-      → IsBestEntry f p t counts x (record { placement = s.placement; flow = Some s.flow.amounts.items; ranks = Some inner })
-  best_entry s inner split small best shown =
-      let two : 2 ≤ length s.cut.rank.items = omega (arith, shown.ranks, shown.valid.nodes) in
-      let same : rank_of s.cut ≡ rank_in inner = λ i v. ranks_read s.cut.rank.items inner split two shown.ends.0 shown.ends.1 v i in
-      let numbers = small_placement (arcs_of p.edges) (length p.points) (IsEventOf f p t x) s.placement few_arcs few_points (best_placed s.placement best) in
-      record {
-        best = best;
-        certifies = record {
-          net = shown.net;
-          network = shown.network;
-          shows = λ reached event is. record {
-            flow = s.flow;
-            ranks = inner;
-            has = record { flow_there = refl; ranks_there = refl; arcs = shown.within.len; nodes = ranks_counted s.cut.rank.items inner split two ∙ shown.ranks };
-            certifies = subst (λ (rank : ℕ → ℕ). Certifies (graph_of f p counts reached event) shown.net s.flow rank s.placement) same (shown.certifies reached event is);
-          };
-        };
-        within = record { flow = small_amounts shown.net s.flow shown.valid shown.within; inserted = numbers.0; kept = numbers.1; ranks = small };
-      }
-
   pub lazy_entry : (placement : Placement) → IsLazilyPlaced f p t x placement → IsLazyEntry f p t x (record { placement = placement; flow = None; ranks = None })
   lazy_entry placement lazy =
       let numbers = small_placement (arcs_of p.edges) (length p.points) (IsEventOf f p t x) placement few_arcs few_points lazy.lazy.placement in
       record { lazy = lazy; within = record { flow = tt; inserted = numbers.0; kept = numbers.1; ranks = tt } }
 
-  -- ---- what is chosen
+  module _ (counts : FnCounts) where
+    best_placed : (placement : Placement) → IsBestIn f p t x counts placement → IsPlacementOn (arcs_of p.edges) (length p.points) (IsEventOf f p t x) placement
+    best_placed placement best = (best are.blocks.test are.blocks.told).placement
 
-  never : true ≡ false → ⊥
-  never e = cc
-
-  module _ (expr : Expr) (there : slice_get t.exprs x ≡ Some expr) (entry : Entry) where
-    pub chosen_best : expr_traps expr ≡ false → IsBestEntry f p t counts x entry → IsChosenEntry f p t counts x entry
-    chosen_best plain is =
-        let best = is.best are.blocks.test are.blocks.told in
+    -- what was solved, as an entry
+    pub best_entry : (s : Solved) (inner : List ℕ) → take 2 s.cut.rank.items ++ inner ≡ s.cut.rank.items → AllBelow (2 ^ 32) inner → IsBestIn f p t x counts s.placement → IsShown f p t x counts s
+        → IsBestEntry f p t counts x (record { placement = s.placement; flow = Some s.flow.amounts.items; ranks = Some inner })
+    best_entry s inner split small best shown =
+        let two : 2 ≤ length s.cut.rank.items = omega (arith, shown.ranks, shown.valid.nodes) in
+        let same : rank_of s.cut ≡ rank_in inner = λ i v. ranks_read s.cut.rank.items inner split two shown.ends.0 shown.ends.1 v i in
+        let numbers = small_placement (arcs_of p.edges) (length p.points) (IsEventOf f p t x) s.placement few_arcs few_points (best_placed s.placement best) in
         record {
-          chosen = record { expr = expr; there = there; best = λ e. is.best; lazy = λ traps. absurd (never (sym traps ∙ plain)) };
-          good = record { listed = best.placement; correct = best.correct; certifies = λ e. is.certifies; safe = λ can. absurd (never (sym (can expr there) ∙ plain)) };
-          within = is.within;
+          best = best;
+          certifies = record {
+            net = shown.net;
+            network = shown.network;
+            shows = λ reached event is. record {
+              flow = s.flow;
+              ranks = inner;
+              has = record { flow_there = refl; ranks_there = refl; arcs = shown.within.len; nodes = ranks_counted s.cut.rank.items inner split two ∙ shown.ranks };
+              certifies = subst (λ (rank : ℕ → ℕ). Certifies (graph_of f p counts reached event) shown.net s.flow rank s.placement) same (shown.certifies reached event is);
+            };
+          };
+          within = record { flow = small_amounts shown.net s.flow shown.valid shown.within; inserted = numbers.0; kept = numbers.1; ranks = small };
         }
 
-    pub chosen_lazy : expr_traps expr ≡ true → IsLazyEntry f p t x entry → IsChosenEntry f p t counts x entry
-    chosen_lazy traps is = record {
-      chosen = record { expr = expr; there = there; best = λ plain. absurd (never (sym traps ∙ plain)); lazy = λ e. is.lazy };
-      good = record { listed = is.lazy.lazy.placement; correct = is.lazy.correct; certifies = λ plain. absurd (never (sym traps ∙ plain expr there)); safe = λ can. is.lazy.safe };
-      within = is.within;
-    }
+    -- ---- what is chosen
+
+    never : true ≡ false → ⊥
+    never e = cc
+
+    module _ (expr : Expr) (there : slice_get t.exprs x ≡ Some expr) (entry : Entry) where
+      pub chosen_best : expr_traps expr ≡ false → IsBestEntry f p t counts x entry → IsChosenEntry f p t counts x entry
+      chosen_best plain is =
+          let best = is.best are.blocks.test are.blocks.told in
+          record {
+            chosen = record { expr = expr; there = there; best = λ e. is.best; lazy = λ traps. absurd (never (sym traps ∙ plain)) };
+            good = record { listed = best.placement; correct = best.correct; certifies = λ e. is.certifies; safe = λ can. absurd (never (sym (can expr there) ∙ plain)) };
+            within = is.within;
+          }
+
+      pub chosen_lazy : expr_traps expr ≡ true → IsLazyEntry f p t x entry → IsChosenEntry f p t counts x entry
+      chosen_lazy traps is = record {
+        chosen = record { expr = expr; there = there; best = λ plain. absurd (never (sym traps ∙ plain)); lazy = λ e. is.lazy };
+        good = record { listed = is.lazy.lazy.placement; correct = is.lazy.correct; certifies = λ plain. absurd (never (sym traps ∙ plain expr there)); safe = λ can. is.lazy.safe };
+        within = is.within;
+      }

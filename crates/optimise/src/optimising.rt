@@ -60,8 +60,8 @@ fn split<'m, 'a>(
     alloc: Global,
     chosen: Vec<Chosen<'m, 'a>>,
 ) -> Result<Parts<'m, 'a>, NoMemory>
-    ensures placed { IfOk result (λ parts. parts.placed.items ≡ map (λ c. c.placed) chosen.items) }
-    ensures functions { IfOk result (λ parts. parts.functions.items ≡ map (λ c. c.entries) chosen.items) }
+    ensures placed { IfOk result (λ parts. parts.placed.items ≡ map (λ c. c.placed) chosen.entry.items) }
+    ensures functions { IfOk result (λ parts. parts.functions.items ≡ map (λ c. c.entries) chosen.entry.items) }
 {
     let mut placed = Vec::new(alloc);
     let mut functions = Vec::new(alloc);

@@ -22,11 +22,13 @@ returns-clause-optimised c =
     record {
       placed = c.in_ok-parts.parts.placed.items;
       are_chosen = rw c.in_ok-parts.ensures.placed (each_chosen m counts chosen all);
-      each_good = rw (c.in_ok-parts.ensures.placed, c.in_ok-parts.ensures.functions) (each_good m counts chosen all);
+      each_good = rw (c.from.ensures, c.in_ok-parts.ensures.placed, c.in_ok-parts.ensures.functions) (each_good m counts chosen all);
       transformed = rw c.deref.ensures.value at c.in_ok-module.ensures;
     }
 
 pub returns-clause-within : goal.returns-clause-within
 returns-clause-within c =
-    let all : ChosenSoFar c.args.program.now c.args.profile.now.functions _ c.in_ok-chosen.chosen.items = c.in_ok-chosen.ensures.chosen in
-    rw c.in_ok-parts.ensures.functions (all_small c.in_ok-chosen.chosen.items all.within)
+    let m = c.args.program.now in
+    let chosen = c.in_ok-chosen.chosen.items in
+    let all : ChosenSoFar m c.args.profile.now.functions (length m.functions) chosen = rw c.as_slice.ensures at c.in_ok-chosen.ensures.chosen in
+    rw (c.from.ensures, c.in_ok-parts.ensures.functions) (all_small chosen all.within)
