@@ -39,9 +39,9 @@ module _ (one : (bytes : List ℕ) → HasOneAnswer bytes) (one_profile : (m : P
 
   -- the files say yes or no, however they were read
   yes_carried : (x y : AreChecked files old) → IsWellFormed y.program → SaysYes files old x → SaysYes files old y
-  yes_carried x y rules yes =
+  yes_carried x y rules says =
       let P : Program → List FnCounts → Type 0 = λ m counts. IsYes m counts x.text x.certificate in
-      let there = carried one one_profile files old P x.program y.program rules x.accepted y.accepted yes in
+      let there = carried one one_profile files old P x.program y.program rules x.accepted y.accepted says in
       let text = same_content one one_profile files old files.output x.text y.text x.output.holds y.output.holds in
       let certificate = one_certificate x.certificate y.certificate x.certified y.certified in
       subst (λ (c : Certificate). IsYes y.program y.accepted.counts y.text c) certificate

@@ -210,7 +210,7 @@ module _ (files : OptFiles) (before mid : HostState) (bytes : List ℕ)
               certify_stopped (StepLimit steps) stops = absurd stops
 
               module _ (certificate : Certificate) (is : Holds json certificate) where
-                checked : IsTrue before.tells → AreChecked files before
+                abbrev checked : IsTrue before.tells → AreChecked files before
                 checked tells = record {
                   program = program;
                   accepted = accepted tells;
@@ -233,4 +233,4 @@ module _ (files : OptFiles) (before mid : HostState) (bytes : List ℕ)
 
                 -- it says yes
                 pub done : IsYes program counts text certificate → AreAllBest program counts certificate → CheckEnds files before new (Ok Checked)
-                done yes best = (all_read.files, λ tells. record { agreed = record { checked = checked tells; yes = yes }; rules = rules; best = best })
+                done says best = (all_read.files, λ tells. record { agreed = record { checked = checked tells; yes = says }; rules = rules; best = best })

@@ -184,7 +184,7 @@ module _ (files : OptFiles) (before mid : HostState) (bytes : List ℕ)
         optimise_stopped (StepLimit steps) stops = absurd stops
 
         module _ (text certificate_text : List ℕ) (made : AreOptimisedTexts program counts text certificate_text) (new : HostState) where
-          output : IsTrue before.tells → IsOutput files before made.program'
+          abbrev output : IsTrue before.tells → IsOutput files before made.program'
           output tells = record {
             optimises = record { program = program; accepted = accepted tells; optimised = made.optimised };
             certificate = made.certificate;

@@ -14,12 +14,12 @@ too_long host name bytes gives long tells =
     ap (λ xs. length xs) (gives tells).2 ∙ length-take (text_limit + 1) content in
     (content, (gives tells).1, omega (arith, cut, long))
 
--- no more bytes than a text has, so this is the whole file
-pub whole : (host : HostState) (name bytes : List ℕ) → GivesFile host name text_limit bytes → length bytes ≤ text_limit →
+-- no more bytes than the limit, so this is the whole file
+pub whole : (host : HostState) (name bytes : List ℕ) (limit : ℕ) → GivesFile host name limit bytes → length bytes ≤ limit →
     IsTrue host.tells → host.file name ≡ Some bytes
-whole host name bytes gives short tells =
+whole host name bytes limit gives short tells =
     let content = (gives tells).0 in
-    let cut : length bytes ≡ min (text_limit + 1) (length content) =
-    ap (λ xs. length xs) (gives tells).2 ∙ length-take (text_limit + 1) content in
-    let all : take (text_limit + 1) content ≡ content = take_all (text_limit + 1) content (omega (arith, cut, short)) in
+    let cut : length bytes ≡ min (limit + 1) (length content) =
+    ap (λ xs. length xs) (gives tells).2 ∙ length-take (limit + 1) content in
+    let all : take (limit + 1) content ≡ content = take_all (limit + 1) content (omega (arith, cut, short)) in
     (gives tells).1 ∙ ap (λ xs. Some xs) (sym ((gives tells).2 ∙ all))

@@ -1,5 +1,6 @@
 -- What an ending of a row says.
 use Rattle.std.proofs.Common.{◌≡◌, ◌<◌, ℕ, List, Option, None, Some, Ok, Err, IsTrue, ◌⊎◌, inl, inr, refl, sym, ap, subst, ◌∙◌, arith}
+use Rattle.std.specs.Prelude.{◌↔◌, IsNone}
 use Rattle.mc_num.specs.declared.op.Trap.{Trap}
 use Rattle.ir_types.specs.Program.{Program}
 use Rattle.ir_types.specs.WellFormed.{IsWellFormed}
@@ -235,3 +236,30 @@ module _ (old new : World) where
       let at = no_at ending (sym is ∙ six) in
       let P : Ending → Type 0 = λ ending. Ends row old new ending in
       denied_so row at.0 (subst P at.1 ends) tells
+
+  -- usage is told just where there is no row
+  usage_at : (ending : Ending) → status_of ending ≡ 2 → ending ≡ Err Usage
+  usage_at (Err Usage) e = refl
+  usage_at (Ok done) e = absurd (omega (arith, e))
+  usage_at (Err (No reason)) e = absurd (omega (arith, e))
+  usage_at (Err (Refused file problem)) e = absurd (omega (arith, e))
+  usage_at (Err (ReadFault name)) e = absurd (omega (arith, e))
+  usage_at (Err (WriteFault name)) e = absurd (omega (arith, e))
+  usage_at (Err OutOfMemory) e = absurd (omega (arith, e))
+  usage_at (Err (Trapped trap)) e = absurd (omega (arith, e))
+  usage_at (Err (StepLimit steps)) e = absurd (omega (arith, e))
+
+  never_usage : (row : Row) → Ends (Some row) old new (Err Usage) → ⊥
+  never_usage (Print input output) ends = ends.0
+  never_usage (Run limit input profile) ends = ends
+  never_usage (Opt files) ends = ends.0
+  never_usage (Check files) ends = ends.0
+
+  some_none : (row : Row) → IsNone (Some row) → ⊥
+  some_none row e = cc
+
+  pub usage : (row : Option Row) (ending : Ending) → Ends row old new ending → (status : ℕ) → status ≡ status_of ending → (status ≡ 2) ↔ IsNone row
+  usage None ending ends status is = ((λ two. refl), (λ none. is ∙ ap status_of ends.0))
+  usage (Some row) ending ends status is =
+      let P : Ending → Type 0 = λ ending. Ends (Some row) old new ending in
+      ((λ two. absurd (never_usage row (subst P (usage_at ending (sym is ∙ two)) ends))), (λ none. absurd (some_none row none)))

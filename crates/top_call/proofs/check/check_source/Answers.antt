@@ -76,8 +76,8 @@ returns-in_err-agreed-clause-ends g c = λ before read holds.
     c.in_ok-counts.counts.functions c.in_ok-counts.ensures.read (g.H.Host.state c.read_short-2.new.host) c.read_short-2.ensures.rest
     c.in_ok-text.text.items c.in_ok-text.ensures.read c.in_ok-text.ensures.short (g.H.Host.state c.read_whole.new.host) c.read_whole.ensures.rest
     c.deref-2.result.now (λ tells. c.in_ok-json.ensures.read tells ∙ ap (λ (bytes : List ℕ). Some bytes) (sym c.deref-2.ensures.value))
-    c.in_ok-certificate.certificate c.in_ok-certificate.ensures
-    c.in_err-agreed.field-0.0 c.in_err-agreed.ensures.stops)
+    c.in_ok-certificate.certificate c.in_ok-certificate.ensures.held
+    c.in_err-agreed.field-0.0 (rw c.deref-3.ensures.value at c.in_err-agreed.ensures.stops))
 
 pub returns-clause-ends : goal.returns-clause-ends
 returns-clause-ends g c = λ before read holds.
@@ -90,5 +90,5 @@ returns-clause-ends g c = λ before read holds.
     c.in_ok-counts.counts.functions c.in_ok-counts.ensures.read (g.H.Host.state c.read_short-2.new.host) c.read_short-2.ensures.rest
     c.in_ok-text.text.items c.in_ok-text.ensures.read c.in_ok-text.ensures.short (g.H.Host.state c.read_whole.new.host) c.read_whole.ensures.rest
     c.deref-2.result.now (λ tells. c.in_ok-json.ensures.read tells ∙ ap (λ (bytes : List ℕ). Some bytes) (sym c.deref-2.ensures.value))
-    c.in_ok-certificate.certificate c.in_ok-certificate.ensures
-    c.in_ok-agreed.ensures.yes c.in_ok-agreed.ensures.best
+    c.in_ok-certificate.certificate c.in_ok-certificate.ensures.held
+    (rw c.deref-3.ensures.value at c.in_ok-agreed.ensures.yes) c.in_ok-agreed.ensures.best

@@ -12,7 +12,7 @@ returns-clause-texts c =
     c.in_ok-optimised.ensures.optimised c.requires.counts (c.certified_are_best.ensures c.args.program.now c.args.counts.now.functions made.certificate made.module c.requires.counts)
     (c.text_holds_its_certificate.ensures made.certificate c.in_ok-optimised.ensures.within) limits
     (c.reads_back.ensures made.module c.keeps_rules.ensures limits) (c.plain_same.ensures c.args.program.now made.module)
-    c.in_ok-module.ensures.text c.in_ok-module.ensures.short c.in_ok-certificate.ensures
+    c.in_ok-module.ensures.text c.in_ok-module.ensures.short c.in_ok-certificate.ensures.text
 
 never : IsTrue false → ⊥
 never told = cc
@@ -21,8 +21,7 @@ pub returns-then-not-within_limits-clause-stops : goal.returns-then-not-within_l
 returns-then-not-within_limits-clause-stops c = (
   refl,
   refl,
-  inl (
-    made_large c.args.program.now c.args.counts.now.functions c.in_ok-optimised.optimised.certificate c.in_ok-optimised.optimised.module c.in_ok-optimised.ensures.optimised
-    (inr (λ limits. never (subst IsTrue c.if-not-within_limits.true (c.within_limits.ensures.1 limits)))),
-  ),
+  inl
+      (made_large c.args.program.now c.args.counts.now.functions c.in_ok-optimised.optimised.certificate c.in_ok-optimised.optimised.module c.in_ok-optimised.ensures.optimised
+      (inr (λ limits. never (subst IsTrue c.if-not-within_limits.true (c.within_limits.ensures.1 limits))))),
 )

@@ -1,5 +1,5 @@
 use Rattle.top_call.specs.Row.{row_of, texts}
-use Rattle.top_call.proofs.Rows.{not_done, complete, denied, deny, grown, traps, ends_nothing, still, trapped, limited, done, partly}
+use Rattle.top_call.proofs.Rows.{not_done, complete, denied, deny, grown, traps, ends_nothing, still, trapped, limited, done, moved, partly, usage}
 use Rattle.top_call.proofs.top.mcpre.Goals as goal
 
 pub returns-clause-not_done : goal.returns-clause-not_done
@@ -40,3 +40,9 @@ returns-clause-denied g c = λ tells six. let e = c.answer.ensures.ends in denie
 
 pub returns-clause-deny : goal.returns-clause-deny
 returns-clause-deny g c = λ tells no. let e = c.answer.ensures.ends in rw e.status_is (deny _ _ c.one_answer.ensures (record { one = c.one_answer-2.ensures.one; right = c.one_answer-2.ensures.right }) c.one_answer-3.ensures (row_of (texts c.args.words.now)) e.ending e.ends tells no)
+
+pub returns-clause-usage : goal.returns-clause-usage
+returns-clause-usage g c = let e = c.answer.ensures.ends in usage _ _ (row_of (texts c.args.words.now)) e.ending e.ends _ e.status_is
+
+pub returns-clause-moved : goal.returns-clause-moved
+returns-clause-moved g c = λ tells. let e = c.answer.ensures.ends in moved c.one_answer.ensures _ _ e.ending (row_of (texts c.args.words.now)) e.ends tells
