@@ -1,0 +1,11 @@
+mod Carried
+mod Differing
+mod Endings
+mod Faulty
+mod Fitting
+mod Growing
+mod Grown
+mod Inserting
+mod Numbering
+mod Sound
+mod Verdicts
