@@ -1,5 +1,6 @@
 -- What the comparison of the texts tells.
 use Rattle.std.proofs.Common.{◌≡◌, ◌↔◌, ℕ, List, refl, sym, ap, ◌∙◌, subst}
+use Rattle.std.specs.Prelude.{slice_get}
 use Rattle.ir_types.specs.Program.{Program}
 use Rattle.ir_printer.specs.Text.{text_of}
 use Rattle.profile.specs.declared.counts.FnCounts.{FnCounts}
@@ -7,13 +8,15 @@ use Rattle.certificate.specs.declared.types.Certificate.{Certificate}
 use Rattle.certified.specs.Certified.{IsCertified, IsYes}
 use Rattle.certified.specs.Laws.{OneCertified}
 use Rattle.checker.specs.Checked.{Tells}
-use Rattle.checker.specs.Reasons.{AreNumbered, IsFirstReason, IsNo}
+use Rattle.checker.specs.Reasons.{AreNumbered, IsFirstDifference, IsFirstReason, IsNo}
 use Rattle.checker.specs.declared.numbered.Numbered.{Numbered}
 use Rattle.checker.specs.declared.verdict.Reason.{Reason}
 use Rattle.checker.specs.declared.verdict.Reason.TheVariants.{Text}
 use Rattle.checker.specs.declared.verdict.Verdict.{Verdict}
 use Rattle.checker.specs.declared.verdict.Verdict.TheVariants.{Yes, No}
-use Rattle.checker.proofs.Differing.{not_same}
+
+not_same : (one other : List ℕ) (n : ℕ) → IsFirstDifference one other n → one ≡ other → ⊥
+not_same one other n difference e = difference.differs (ap (λ (l : List ℕ). slice_get l n) e)
 
 no_is_no_yes : {P : Type 0} (reason : Reason) → No reason ≡ Yes → P
 no_is_no_yes reason e = cc

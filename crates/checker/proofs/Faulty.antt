@@ -1,16 +1,17 @@
 -- The first entry that has a fault.
-use Rattle.std.proofs.Common.{◌≡◌, ◌⊎◌, ⊎_elim, ℕ, ◌+◌, ◌<◌, ◌≤◌, List, length, Some, sym, ap, ◌∙◌, subst, arith}
+use Rattle.std.proofs.Common.{◌≡◌, ⊎_elim, ℕ, ◌+◌, ◌<◌, ◌≤◌, List, length, get_or, Some, refl, sym, ap, ◌∙◌, subst, arith}
 use Rattle.std.specs.Prelude.{slice_get}
 use Rattle.std.proofs.lemmas.Bool.{cases_lt}
-use Rattle.std.proofs.lemmas.Option.{slice_get_within, same_Some}
+use Rattle.std.proofs.lemmas.Option.{slice_get_read, slice_get_within, same_Some}
 use Rattle.profile.specs.declared.counts.FnCounts.{FnCounts}
 use Rattle.certificate.specs.declared.types.Entry.{Entry}
 use Rattle.certificate.specs.declared.types.Certificate.{Certificate}
 use Rattle.certified.specs.Entries.{IsGood}
-use Rattle.checker.specs.Checked.{AreGoodEntries, IsReasonAt, IsReasonIn, NoneIsFaulty}
-use Rattle.checker.specs.Reasons.{EntryAt, IsGoodAt}
+use Rattle.checker.specs.Checked.{AreGoodEntries, AreReady, IsCounting, IsReasonAt, IsReasonIn, NoneIsFaulty}
+use Rattle.checker.specs.Reasons.{AreLengths, EntryAt, IsGoodAt}
 use Rattle.checker.specs.declared.numbered.Numbered.{Numbered}
 use Rattle.checker.specs.declared.verdict.Reason.{Reason}
+use Rattle.checker.proofs.Fitting.{fits_here}
 
 -- ---- the entries of a function
 
@@ -67,5 +68,34 @@ module _ (counts : List FnCounts) (numbered : List Numbered) (certificate : Cert
       is = is.is;
     }
 
-  pub none_faulty : length numbered ≤ k → NoneIsFaulty counts numbered certificate k → NoneIsFaulty counts numbered certificate (length numbered)
-  none_faulty end none i x at lt = none i x at (omega (arith, lt, end))
+-- ---- one turn of the loop
+
+-- the function k, its counts and its entries
+pub record IsTurn (counts : List FnCounts) (numbered : List Numbered) (certificate : Certificate) (k : ℕ) (q : Numbered) (own : FnCounts) (entries : List Entry) : Type 0 where
+  pub there : slice_get numbered k ≡ Some q
+  pub counted : slice_get counts k ≡ Some own
+  pub listed : slice_get certificate.functions k ≡ Some entries
+  pub are : IsCounting q.function.now own
+  pub fits : length entries ≡ length q.table.exprs
+
+module _ (counts : List FnCounts) (numbered : List Numbered) (certificate : Certificate) (ready : AreReady numbered counts) (k : ℕ) (q : Numbered) (inside : k < length numbered) (read : q ≡ get_or numbered k q) where
+  pub there_at : slice_get numbered k ≡ Some q
+  there_at = slice_get_read numbered (length numbered) k q refl inside read
+
+  pub counts_inside : k < length counts
+  counts_inside = let counted = ready.counted k q there_at in slice_get_within counts k counted.own counted.there
+
+  pub turn : AreLengths numbered certificate → (lists : List (List Entry)) (list entries : List Entry) (own : FnCounts) → lists ≡ certificate.functions → list ≡ get_or lists k list → entries ≡ list → own ≡ get_or counts k own
+      → IsTurn counts numbered certificate k q own entries
+  turn lengths lists list entries own same list_read is own_read =
+      let counted = ready.counted k q there_at in
+      let at : slice_get counts k ≡ Some own = slice_get_read counts (length counts) k own refl counts_inside own_read in
+      let within : k < length lists = omega (arith, inside, lengths.0, ap (λ (l : List (List Entry)). length l) same) in
+      let listed : slice_get certificate.functions k ≡ Some entries = rw (sym same, is) (slice_get_read lists (length lists) k list refl within list_read) in
+      record {
+        there = there_at;
+        counted = at;
+        listed = listed;
+        are = subst (IsCounting q.function.now) (same_Some counted.own own (sym counted.there ∙ at)) counted.are;
+        fits = fits_here numbered certificate k q entries there_at listed lengths.1;
+      }

@@ -1,17 +1,14 @@
 -- What a certificate places, function by function.
-use Rattle.std.proofs.Common.{◌≡◌, ◌⊎◌, ⊎_elim, ℕ, ◌+◌, ◌<◌, List, [], ◌∷◌, ◌++◌, length, Some, refl, sym, ap, ◌∙◌, subst, arith}
+use Rattle.std.proofs.Common.{◌≡◌, ⊎_elim, ℕ, List, [], ◌∷◌, ◌++◌, length, Some, sym, ap, ◌∙◌, subst, arith}
 use Rattle.std.specs.Prelude.{slice_get}
 use Rattle.std.proofs.lemmas.List.{length_push}
-use Rattle.std.proofs.lemmas.Option.{none-some, same_Some}
+use Rattle.std.proofs.lemmas.Option.{same_Some}
 use Rattle.certificate.specs.declared.types.Entry.{Entry}
 use Rattle.certificate.specs.declared.types.Certificate.{Certificate}
 use Rattle.transform.specs.declared.placed.Placed.{Placed}
 use Rattle.checker.specs.Placing.{ArePlacedBy, placed_by}
 use Rattle.checker.specs.declared.numbered.Numbered.{Numbered}
 use Rattle.checker.proofs.Grown.{get_left, get_last, get_push}
-
-pub none_placed : (certificate : Certificate) → ArePlacedBy [] certificate []
-none_placed certificate = record { count = refl; each = λ j q entries there listed. absurd (none-some q there) }
 
 pub one_more_placed : (numbered : List Numbered) (certificate : Certificate) (placed : List Placed) (q : Numbered) (entries : List Entry) → slice_get certificate.functions (length placed) ≡ Some entries
     → ArePlacedBy numbered certificate placed → ArePlacedBy (numbered ++ q ∷ []) certificate (placed ++ placed_by q entries ∷ [])

@@ -1,5 +1,4 @@
 mod Carried
-mod Differing
 mod Endings
 mod Faulty
 mod Fitting

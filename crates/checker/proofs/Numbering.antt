@@ -1,5 +1,5 @@
 -- The functions that have blocks, one by one.
-use Rattle.std.proofs.Common.{◌≡◌, ⊎_elim, ℕ, zero, suc, ◌+◌, ◌<◌, ◌≤◌, ◌^◌, Bool, true, false, not, cond, List, [], ◌∷◌, ◌++◌, length, map, take, filter, get_or, Option, Some, refl, sym, ap, ◌∙◌, subst, arith, sum_by}
+use Rattle.std.proofs.Common.{◌≡◌, ⊎_elim, ℕ, ◌+◌, ◌<◌, ◌≤◌, ◌^◌, Bool, true, false, not, cond, List, [], ◌∷◌, ◌++◌, length, map, take, filter, get_or, Option, Some, refl, sym, ap, ◌∙◌, subst, arith, sum_by}
 use Rattle.std.specs.Prelude.{slice_get, if◌then◌else◌}
 use Rattle.std.specs.Option.{option_map}
 use Rattle.std.specs.List.{AllZip}
@@ -7,7 +7,7 @@ use Rattle.std.proofs.lemmas.Bool.{cases_lt}
 use Rattle.std.proofs.lemmas.List.{append-nil, length_push, length-take, map-append, take_all}
 use Rattle.std.proofs.lemmas.List.Elements.{filter_more}
 use Rattle.std.proofs.lemmas.List.Sums.{count_by-le-length, count_by_more_yes, count_by_more_no, get_or-le-sum_by}
-use Rattle.std.proofs.lemmas.Option.{slice_get_within, slice_get-map, get_or_from_slice_get, same_Some, none-some}
+use Rattle.std.proofs.lemmas.Option.{slice_get_within, slice_get-map, get_or_from_slice_get, same_Some}
 use Rattle.ir_types.specs.Rules.{is_nil}
 use Rattle.ir_types.specs.Program.{Program}
 use Rattle.ir_types.specs.WellFormed.{IsWellFormed}
@@ -21,21 +21,13 @@ use Rattle.transform.proofs.Alone.{defined_length}
 use Rattle.transform.specs.Transformed.{defined_before}
 use Rattle.checker.specs.Checked.{AreReady, HasCounts, HasRules}
 use Rattle.checker.specs.Numbering.{AreNumberedSoFar, IsOwn, function_of}
-use Rattle.checker.specs.Reasons.{AreNumbered, HasNumbers, IsNumbered}
+use Rattle.checker.specs.Reasons.{AreNumbered, IsNumbered}
 use Rattle.checker.specs.declared.numbered.Numbered.{Numbered}
 use Rattle.checker.proofs.Grown.{get_left, get_last, get_push, zip_at}
 
 defined_same : (blocks : List Block) → not (is_nil blocks) ≡ is_defined blocks
 defined_same [] = refl
 defined_same (block ∷ blocks) = refl
-
-pub none_numbered : (m : Program) → AreNumberedSoFar m 0 []
-none_numbered m = record {
-  count = refl;
-  each = λ k f lt. absurd (omega (arith, lt));
-  functions = refl;
-  own = λ j q there. absurd (none-some q there);
-}
 
 module _ (m : Program) (n : ℕ) (f : Function) (numbered : List Numbered) (there : slice_get m.functions n ≡ Some f) (are : AreNumberedSoFar m n numbered) where
   abbrev defined : Function → Bool

@@ -1,10 +1,10 @@
 -- What a good certificate places is correct, and safe where the expression can trap.
-use Rattle.std.proofs.Common.{◌≡◌, ◌+◌, ◌<◌, ◌≤◌, ◌^◌, ⊎_elim, ℕ, Bool, true, false, List, [], ◌∷◌, Option, Some, None, length, map, refl, sym, ap, ◌∙◌, subst, arith}
-use Rattle.std.specs.Prelude.{slice_get, Contains}
+use Rattle.std.proofs.Common.{◌≡◌, ◌<◌, ℕ, true, List, Option, Some, None, length, refl, sym, ap, ◌∙◌, subst, arith}
+use Rattle.std.specs.Prelude.{slice_get}
 use Rattle.std.specs.Option.{option_map}
 use Rattle.std.proofs.lemmas.List.{length-map}
 use Rattle.std.proofs.lemmas.List.Elements.{All-contains}
-use Rattle.std.proofs.lemmas.Option.{slice_get-map, slice_get-get_or, slice_get_within, same_Some, none-some}
+use Rattle.std.proofs.lemmas.Option.{slice_get-map, same_Some, none-some}
 use Rattle.ir_types.specs.Program.{Program}
 use Rattle.ir_types.specs.declared.syntax.Function.{Function}
 use Rattle.ir_machine.specs.Same.{is_defined}
@@ -12,7 +12,6 @@ use Rattle.profile.specs.declared.counts.FnCounts.{FnCounts}
 use Rattle.point_graph.specs.Numbers.{ArePoints}
 use Rattle.point_graph.specs.declared.graph.Points.{Points}
 use Rattle.expressions.specs.Expressions.{expr_traps}
-use Rattle.expressions.specs.declared.syntax.Expr.{Expr}
 use Rattle.expressions.specs.Kept.{Kept}
 use Rattle.expressions.specs.Tables.{IsTable, IsEventOf}
 use Rattle.placement.specs.declared.placements.Placement.{Placement}
@@ -26,9 +25,9 @@ use Rattle.certificate.specs.declared.types.Entry.{Entry}
 use Rattle.certificate.specs.declared.types.Certificate.{Certificate}
 use Rattle.transform.proofs.Alone.{defined_length}
 use Rattle.transform.specs.declared.placed.Placed.{Placed}
-use Rattle.transform.specs.Transformed.{Each, IsPlacedIn, IsSoundIn, defined_before}
-use Rattle.certified.specs.Entries.{IsGood, CanTrap}
-use Rattle.certified.specs.Certified.{AreGood, EachGood, HasGood, placements_in}
+use Rattle.transform.specs.Transformed.{Each, IsPlacedIn, IsSoundIn}
+use Rattle.certified.specs.Entries.{CanTrap}
+use Rattle.certified.specs.Certified.{AreGood, EachGood, placements_in}
 
 -- a placement that is correct, and safe where it can trap, makes a move
 abbrev pub MakesMoves : Type 0

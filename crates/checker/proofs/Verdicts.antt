@@ -1,5 +1,5 @@
 -- What was checked is that the certificate is good, and the first reason is one.
-use Rattle.std.proofs.Common.{◌≡◌, ◌≢◌, ◌⊎◌, ⊎_elim, inl, inr, Option, None, ◌<◌, ◌≤◌, ◌^◌, ℕ, true, List, length, min, Some, refl, sym, ap, ◌∙◌, subst, arith}
+use Rattle.std.proofs.Common.{◌≡◌, ⊎_elim, inr, Option, None, ◌<◌, ◌≤◌, ◌^◌, ℕ, true, List, length, Some, refl, sym, ap, ◌∙◌, subst, arith}
 use Rattle.std.specs.Prelude.{slice_get, IfSome, MatchOption}
 use Rattle.std.proofs.lemmas.Bool.{cases_lt}
 use Rattle.std.proofs.lemmas.Option.{slice_get_within, same_Some}
@@ -12,20 +12,19 @@ use Rattle.certificate.specs.declared.types.Entry.{Entry}
 use Rattle.certificate.specs.declared.types.Certificate.{Certificate}
 use Rattle.transform.proofs.Alone.{defined_length}
 use Rattle.transform.specs.declared.placed.Placed.{Placed}
-use Rattle.transform.specs.Transformed.{defined_before}
+use Rattle.transform.specs.Transformed.{IsTransformed, defined_before}
 use Rattle.one_transformed.specs.Laws.{OneNumbering}
 use Rattle.one_transformed.specs.Numberings.{AreSame}
 use Rattle.certified.specs.Entries.{IsGood}
-use Rattle.certified.specs.Certified.{AreGood, AreFew, EachGood, HasGood, insertions, placements_in}
+use Rattle.certified.specs.Certified.{AreGood, AreFew, EachGood, HasGood, IsCertified, insertions, placements_in}
 use Rattle.entry_check.specs.declared.fault.Fault.{Fault}
 use Rattle.entry_check.specs.declared.fault.Fault.TheVariants.{Lists, Missing, Incorrect, Unsafe, Capacity, Balance, Value, Rank, Places}
-use Rattle.checker.specs.Checked.{AreReady, IsChecked, IsCrowdedShape, IsReasonAt, IsShapeOf, NoneIsFaulty, reason_of}
+use Rattle.checker.specs.Checked.{AreReady, IsChecked, IsReasonAt, NoneIsFaulty, reason_of}
 use Rattle.checker.specs.Numbering.{AreNumberedSoFar}
 use Rattle.checker.specs.Placing.{ArePlacedBy, placed_by}
-use Rattle.checker.specs.Reasons.{AreLengths, DiffersAt, EntryAt, IsCrowded, IsFirstFault, IsFirstReason, IsGoodAt, IsWrongLength, NoneIsCrowded}
+use Rattle.checker.specs.Reasons.{AreLengths, DiffersAt, EntryAt, IsFirstFault, IsFirstReason, IsGoodAt, NoneIsCrowded}
 use Rattle.checker.specs.declared.numbered.Numbered.{Numbered}
 use Rattle.checker.specs.declared.verdict.Reason.{Reason}
-use Rattle.checker.specs.declared.verdict.Reason.TheVariants as reasons
 use Rattle.checker.proofs.Carried.{good_there}
 use Rattle.checker.proofs.Grown.{get_some}
 use Rattle.checker.proofs.Fitting.{fits_here}
@@ -35,14 +34,6 @@ use Rattle.checker.proofs.Fitting.{fits_here}
 module _ (m : Program) (counts : List FnCounts) (bytes : List ℕ) (certificate : Certificate) (numbered : List Numbered) where
   abbrev IsFirst : Reason → Type 0
   IsFirst reason = IsFirstReason m counts bytes certificate numbered reason
-
-  pub wrong_length_first : (reason : Reason) → IsShapeOf (IsWrongLength numbered certificate) reason → IsFirst reason
-  wrong_length_first (reasons.Shape function expression) wrong = inl wrong
-  wrong_length_first _ wrong = absurd wrong
-
-  pub crowded_first : AreLengths numbered certificate → (reason : Reason) → IsShapeOf (IsCrowdedShape certificate) reason → IsFirst reason
-  crowded_first lengths (reasons.Shape function expression) crowded = inr (inl (lengths, crowded.0, crowded.1))
-  crowded_first lengths _ crowded = absurd crowded
 
   module _ (lengths : AreLengths numbered certificate) (few : NoneIsCrowded certificate) where
     fault_first : (fault : Fault) (k x : ℕ) → IsFirstFault counts numbered certificate k x fault → IsFirst (reason_of k x fault)
@@ -56,23 +47,11 @@ module _ (m : Program) (counts : List FnCounts) (bytes : List ℕ) (certificate 
     fault_first (Rank node) k x first = (lengths, few, first)
     fault_first Places k x first = (lengths, few, first)
 
-    pub reason_first : (reason : Reason) → IsReasonAt counts numbered certificate reason → IsFirst reason
+    reason_first : (reason : Reason) → IsReasonAt counts numbered certificate reason → IsFirst reason
     reason_first reason is = subst (λ (r : Reason). IsFirst r) (sym is.is) (fault_first is.fault is.function is.expression is.first)
 
 module _ (counts : List FnCounts) (certificate : Certificate) (numbered : List Numbered) where
-  pub wrong_length_unchecked : (reason : Reason) → IsShapeOf (IsWrongLength numbered certificate) reason → ¬ (IsChecked counts numbered certificate)
-  wrong_length_unchecked (reasons.Shape function expression) wrong checked = ⊎_elim
-      (λ (lists : (length certificate.functions ≢ length numbered) × (function ≡ min (length certificate.functions) (length numbered)) × (expression ≡ 0)). lists.0 checked.lengths.0)
-      (λ (own : (length certificate.functions ≡ length numbered) × DiffersAt numbered certificate function expression
-        × ((k n : ℕ) → k < function → ¬ (DiffersAt numbered certificate k n))). checked.lengths.1 function expression own.1)
-      wrong
-  wrong_length_unchecked _ wrong checked = absurd wrong
-
-  pub crowded_unchecked : (reason : Reason) → IsShapeOf (IsCrowdedShape certificate) reason → ¬ (IsChecked counts numbered certificate)
-  crowded_unchecked (reasons.Shape function expression) crowded checked = checked.none_crowded function crowded.0.0
-  crowded_unchecked _ crowded checked = absurd crowded
-
-  pub fault_unchecked : (reason : Reason) → IsReasonAt counts numbered certificate reason → ¬ (IsChecked counts numbered certificate)
+  fault_unchecked : (reason : Reason) → IsReasonAt counts numbered certificate reason → ¬ (IsChecked counts numbered certificate)
   fault_unchecked reason is checked = is.first.not_good (checked.good is.function is.expression is.first.at)
 
   -- by what the entries tell, once the lengths and the sums were looked at
@@ -94,9 +73,9 @@ module _ (m : Program) (counts : List FnCounts) (certificate : Certificate) (num
   module _ (ready : AreReady numbered counts) (checked : IsChecked counts numbered certificate) (placed : List Placed) (by : ArePlacedBy numbered certificate placed) where
     few_here : (j : ℕ) (entries : List Entry) → slice_get certificate.functions j ≡ Some entries → AreFew (placements_in entries)
     few_here j entries listed = ⊎_elim
-          (λ (few : insertions (placements_in entries) < 2 ^ 28). few)
-          (λ (many : 2 ^ 28 ≤ insertions (placements_in entries)). absurd (checked.none_crowded j (record { entries = entries; listed = listed; many = many })))
-          (cases_lt (insertions (placements_in entries)) (2 ^ 28))
+        (λ (few : insertions (placements_in entries) < 2 ^ 28). few)
+        (λ (many : 2 ^ 28 ≤ insertions (placements_in entries)). absurd (checked.none_crowded j (record { entries = entries; listed = listed; many = many })))
+        (cases_lt (insertions (placements_in entries)) (2 ^ 28))
 
     good_at : (k : ℕ) (f : Function) → slice_get m.functions k ≡ Some f → is_defined f.blocks ≡ true → HasGood m counts certificate placed k f
     good_at k f there d =
@@ -129,6 +108,9 @@ module _ (m : Program) (counts : List FnCounts) (certificate : Certificate) (num
 
     pub each_good : EachGood m counts certificate placed
     each_good = record { functions = checked.lengths.0 ∙ are.count; count = by.count ∙ are.count; each = good_at }
+
+    pub certified_here : (made : Program) → IsTransformed m placed made → IsCertified m counts certificate made
+    certified_here made transformed = record { placed = placed; each_good = each_good; transformed = transformed }
 
   -- ---- a good certificate passes
 

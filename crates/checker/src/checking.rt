@@ -76,7 +76,12 @@ pub fn check_all(
     one_certified();
     certified_are_best();
     let numbered = all_numbered(alloc, program)?;
-    if let Some(reason) = first_reason(alloc, &numbered, profile.functions.as_slice(), certificate)? {
+    if let Some(reason) = first_reason(
+        alloc,
+        &numbered,
+        profile.functions.as_slice(),
+        certificate,
+    )? {
         return Ok(Verdict::No(reason));
     }
     let placed = placed_of(alloc, numbered, certificate)?;

@@ -16,15 +16,49 @@ fn reason_at(function: u32, expression: u32, fault: Fault) -> Reason
     ensures { result ≡ reason_of function expression fault }
 {
     match fault {
-        Fault::Lists => Reason::Shape { function, expression },
-        Fault::Missing => Reason::Missing { function, expression },
-        Fault::Incorrect(point) => Reason::Incorrect { function, expression, point },
-        Fault::Unsafe(edge) => Reason::Unsafe { function, expression, edge },
-        Fault::Capacity(arc) => Reason::Capacity { function, expression, arc },
-        Fault::Balance(node) => Reason::Balance { function, expression, node },
-        Fault::Value(cost, sum) => Reason::Value { function, expression, cost, sum },
-        Fault::Rank(node) => Reason::Rank { function, expression, node },
-        Fault::Places => Reason::Places { function, expression },
+        Fault::Lists => Reason::Shape {
+            function,
+            expression,
+        },
+        Fault::Missing => Reason::Missing {
+            function,
+            expression,
+        },
+        Fault::Incorrect(point) => Reason::Incorrect {
+            function,
+            expression,
+            point,
+        },
+        Fault::Unsafe(edge) => Reason::Unsafe {
+            function,
+            expression,
+            edge,
+        },
+        Fault::Capacity(arc) => Reason::Capacity {
+            function,
+            expression,
+            arc,
+        },
+        Fault::Balance(node) => Reason::Balance {
+            function,
+            expression,
+            node,
+        },
+        Fault::Value(cost, sum) => Reason::Value {
+            function,
+            expression,
+            cost,
+            sum,
+        },
+        Fault::Rank(node) => Reason::Rank {
+            function,
+            expression,
+            node,
+        },
+        Fault::Places => Reason::Places {
+            function,
+            expression,
+        },
     }
 }
 
@@ -43,7 +77,15 @@ fn fault_in(
 {
     for e in 0..own.table.len() {
         let entry = &entries[e as usize];
-        let found = check_entry(alloc, own.function, &own.points, &own.table, e, counts, entry)?;
+        let found = check_entry(
+            alloc,
+            own.function,
+            &own.points,
+            &own.table,
+            e,
+            counts,
+            entry,
+        )?;
         if let Some(fault) = found {
             return Ok(Some(reason_at(number, e, fault)));
         }
@@ -66,7 +108,13 @@ pub(crate) fn first_fault(
     let lists = certificate.functions.as_slice();
     for number in 0..numbered.len() {
         let entries = lists[number].as_slice();
-        let found = fault_in(alloc, number as u32, &numbered[number], &counts[number], entries)?;
+        let found = fault_in(
+            alloc,
+            number as u32,
+            &numbered[number],
+            &counts[number],
+            entries,
+        )?;
         if let Some(reason) = found {
             return Ok(Some(reason));
         }

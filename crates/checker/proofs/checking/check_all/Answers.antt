@@ -1,14 +1,14 @@
-use Rattle.std.proofs.Common.{◌≡◌, ℕ, List, length, sym}
+use Rattle.std.proofs.Common.{ℕ, List}
 use Rattle.ir_types.specs.Program.{Program}
 use Rattle.ir_printer.specs.Text.{text_of}
-use Rattle.certified.specs.Certified.{EachGood, IsCertified}
+use Rattle.certified.specs.Certified.{EachGood}
 use Rattle.transform.specs.Transformed.{IsTransformed}
 use Rattle.checker.specs.Checked.{IsChecked, Tells}
 use Rattle.checker.specs.Reasons.{IsFirstReason}
 use Rattle.checker.proofs.Endings.{first_refusal, refused, tells_no, tells_yes}
 use Rattle.checker.proofs.Numbering.{all_numbers, ready}
 use Rattle.checker.proofs.Sound.{each_sound}
-use Rattle.checker.proofs.Verdicts.{each_good, good_passes}
+use Rattle.checker.proofs.Verdicts.{certified_here, each_good, good_passes}
 use Rattle.checker.proofs.checking.check_all.Goals as goal
 
 pub first_reason-requires-clause-ready : goal.first_reason-requires-clause-ready
@@ -56,9 +56,8 @@ returns-clause-exact c =
     let placed = c.in_ok-placed.placed.items in
     let made = c.in_ok-made.made in
     let checked : IsChecked counts numbered certificate = rw (c.in_default.is, c.deref.ensures.value, c.as_slice.ensures) at c.in_ok-reason.ensures.first in
-    let each : EachGood m counts certificate placed = each_good m counts certificate numbered are (ready m numbered are counts c.requires.counts) checked placed c.in_ok-placed.ensures in
     let transformed : IsTransformed m placed made = rw c.deref-2.ensures.value at c.in_ok-made.ensures in
-    let certified : IsCertified m counts certificate made = record { placed = placed; each_good = each; transformed = transformed } in
+    let certified = certified_here m counts certificate numbered are (ready m numbered are counts c.requires.counts) checked placed c.in_ok-placed.ensures made transformed in
     let tells : Tells c.args.text.now (text_of made) c.compared.result = rw (c.deref-3.ensures.value, c.in_ok-expected.ensures) at c.compared.ensures in
     tells_yes m counts c.args.text.now certificate made certified c.one_certified.ensures c.compared.result tells
 
@@ -72,9 +71,8 @@ returns-clause-reason c =
     let placed = c.in_ok-placed.placed.items in
     let made = c.in_ok-made.made in
     let checked : IsChecked counts numbered certificate = rw (c.in_default.is, c.deref.ensures.value, c.as_slice.ensures) at c.in_ok-reason.ensures.first in
-    let each : EachGood m counts certificate placed = each_good m counts certificate numbered are (ready m numbered are counts c.requires.counts) checked placed c.in_ok-placed.ensures in
     let transformed : IsTransformed m placed made = rw c.deref-2.ensures.value at c.in_ok-made.ensures in
-    let certified : IsCertified m counts certificate made = record { placed = placed; each_good = each; transformed = transformed } in
+    let certified = certified_here m counts certificate numbered are (ready m numbered are counts c.requires.counts) checked placed c.in_ok-placed.ensures made transformed in
     let tells : Tells c.args.text.now (text_of made) c.compared.result = rw (c.deref-3.ensures.value, c.in_ok-expected.ensures) at c.compared.ensures in
     tells_no m counts c.args.text.now certificate made certified numbered (all_numbers m numbered are) c.compared.result tells
 
@@ -86,7 +84,8 @@ returns-clause-best c =
     let numbered = c.in_ok-numbered.numbered.items in
     let are = c.in_ok-numbered.ensures.numbers in
     let placed = c.in_ok-placed.placed.items in
+    let made = c.in_ok-made.made in
     let checked : IsChecked counts numbered certificate = rw (c.in_default.is, c.deref.ensures.value, c.as_slice.ensures) at c.in_ok-reason.ensures.first in
-    let each : EachGood m counts certificate placed = each_good m counts certificate numbered are (ready m numbered are counts c.requires.counts) checked placed c.in_ok-placed.ensures in
-    let transformed : IsTransformed m placed c.in_ok-made.made = rw c.deref-2.ensures.value at c.in_ok-made.ensures in
-    λ yes. c.certified_are_best.ensures m counts certificate c.in_ok-made.made c.requires.counts (record { placed = placed; each_good = each; transformed = transformed })
+    let transformed : IsTransformed m placed made = rw c.deref-2.ensures.value at c.in_ok-made.ensures in
+    let certified = certified_here m counts certificate numbered are (ready m numbered are counts c.requires.counts) checked placed c.in_ok-placed.ensures made transformed in
+    λ yes. c.certified_are_best.ensures m counts certificate made c.requires.counts certified

@@ -16,7 +16,7 @@ loop-function-preserved c =
     let there : slice_get m.functions n ≡ Some f = rw (sym c.functions-function-items.ensures.list) (slice_get_read c.functions-function-items.result.now _ n f refl c.loop-function-test.true c.function-item.is) in
     elim c.if-is_defined.branch [
       | then-is_defined+in_ok-numbers_of+in_ok-push w ↦ rw (w.numbered-is, w.in_ok-push.ensures.items)
-            (one_more m n f numbered there c.loop-function.invariant (sym c.is_defined.ensures ∙ w.if-is_defined.true) w.in_ok-numbers_of.field-0 w.in_ok-numbers_of.ensures)
+          (one_more m n f numbered there c.loop-function.invariant (sym c.is_defined.ensures ∙ w.if-is_defined.true) w.in_ok-numbers_of.field-0 w.in_ok-numbers_of.ensures)
       | else-is_defined w ↦ rw w.numbered-is (none_more m n f numbered there c.loop-function.invariant (sym c.is_defined.ensures ∙ w.if-is_defined.false))
     ]
 

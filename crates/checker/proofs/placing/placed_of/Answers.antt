@@ -19,7 +19,7 @@ loop-own-preserved c =
     let len : c.len.result ≡ length placed = omega (arith, c.len.ensures, c.loop-own.placed.ok.0) in
     let gives = c.into_iter-own-iterator.ensures.into_iter_gives in
     let turn = YieldsList-turn (YieldsList-from_vec {s = c.into_iter-own-iterator.result} c.args.numbered.items gives.0 (gives.1 ∙ c.args.numbered.ok.0))
-        c.loop-own.yielded c.loop-own.own-iterator c.loop-own.yielded_by c.next.result c.next.new.self q c.in-Some.is c.next.ensures.steps in
+    c.loop-own.yielded c.loop-own.own-iterator c.loop-own.yielded_by c.next.result c.next.new.self q c.in-Some.is c.next.ensures.steps in
     let lists_same : length lists ≡ length certificate.functions = ap (λ (l : List (List Entry)). length l) c.as_slice-lists.ensures in
     let inside : c.len.result < length lists = omega (arith, len, turn.0, c.loop-own.invariant.count, c.requires, lists_same) in
     let listed : slice_get certificate.functions c.len.result ≡ Some list = rw (sym c.as_slice-lists.ensures) (slice_get_read lists (length lists) c.len.result list refl inside c.index-lists-len.is) in
