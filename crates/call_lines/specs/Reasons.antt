@@ -39,9 +39,12 @@ abbrev pub number_text : (name : List ℕ) (function expression : ℕ) (what : L
 number_text name function expression what number =
     name ++ (codes " function " ++ (decimal function ++ (codes " expression " ++ (decimal expression ++ (what ++ decimal number)))))
 
-abbrev pub value_text : (function expression cost sum : ℕ) → List ℕ
-value_text function expression cost sum =
-    codes "N7 Value function " ++ (decimal function ++ (codes " expression " ++ (decimal expression ++ (codes " cost " ++ (decimal cost ++ (codes " sum " ++ decimal sum))))))
+abbrev pub value_text : (name : List ℕ) (function expression cost sum : ℕ) → List ℕ
+value_text name function expression cost sum =
+    name ++ (codes " function " ++ (decimal function ++ (codes " expression " ++ (decimal expression ++ (codes " cost " ++ (decimal cost ++ (codes " sum " ++ decimal sum)))))))
+
+abbrev pub byte_text : (name : List ℕ) (byte : ℕ) → List ℕ
+byte_text name byte = name ++ (codes " byte " ++ decimal byte)
 
 abbrev pub reason_text : Reason → List ℕ
 reason_text (Shape function expression) = entry_text (codes "N1 Shape") function expression
@@ -50,7 +53,7 @@ reason_text (Incorrect function expression point) = number_text (codes "N3 Incor
 reason_text (Unsafe function expression edge) = number_text (codes "N4 Unsafe") function expression (codes " edge ") edge
 reason_text (Capacity function expression arc) = number_text (codes "N5 Capacity") function expression (codes " arc ") arc
 reason_text (Balance function expression node) = number_text (codes "N6 Balance") function expression (codes " node ") node
-reason_text (Value function expression cost sum) = value_text function expression cost sum
+reason_text (Value function expression cost sum) = value_text (codes "N7 Value") function expression cost sum
 reason_text (Rank function expression node) = number_text (codes "N8 Rank") function expression (codes " node ") node
 reason_text (Places function expression) = entry_text (codes "N10 Places") function expression
-reason_text (Text byte) = codes "N9 Text byte " ++ decimal byte
+reason_text (Text byte) = byte_text (codes "N9 Text") byte

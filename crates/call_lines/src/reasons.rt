@@ -1,8 +1,7 @@
 //! The line of a checker that says no, put in pieces.
 ghost use Rattle.std.specs.Prelude.{◌≡◌, ◌++◌, codes};
-ghost use Rattle.std.specs.Fmt.{decimal};
 ghost use Rattle.mc_host.specs.Streams.{Puts};
-ghost use Rattle.call_lines.specs.Reasons.{entry_text, number_text, reason_text, value_text};
+ghost use Rattle.call_lines.specs.Reasons.{byte_text, entry_text, number_text, reason_text, value_text};
 
 use checker::Reason;
 use itoa::Buffer;
@@ -62,12 +61,13 @@ fn put_at<S: Sink>(
 /// Puts a cost that isn't the value of the flow and the constant.
 fn put_value<S: Sink>(
     sink: &mut S,
+    name: &[u8],
     function: u32,
     expression: u32,
     cost: u128,
     sum: u128,
 ) -> Result<(), Failed>
-    ensures { Puts (value_text function expression cost sum) result (S.state sink.old) (S.state sink.new) }
+    ensures { Puts (value_text name.now function expression cost sum) result (S.state sink.old) (S.state sink.new) }
 {
     let mut function_digits = Buffer::new();
     let mut expression_digits = Buffer::new();
@@ -76,7 +76,8 @@ fn put_value<S: Sink>(
     put_all(
         sink,
         &[
-            b"N7 Value function ",
+            name,
+            b" function ",
             function_digits.format(function).as_bytes(),
             b" expression ",
             expression_digits.format(expression).as_bytes(),
@@ -89,11 +90,11 @@ fn put_value<S: Sink>(
 }
 
 /// Puts the place of the first byte that differs.
-fn put_byte<S: Sink>(sink: &mut S, byte: u64) -> Result<(), Failed>
-    ensures { Puts (codes "N9 Text byte " ++ decimal byte) result (S.state sink.old) (S.state sink.new) }
+fn put_byte<S: Sink>(sink: &mut S, name: &[u8], byte: u64) -> Result<(), Failed>
+    ensures { Puts (byte_text name.now byte) result (S.state sink.old) (S.state sink.new) }
 {
     let mut digits = Buffer::new();
-    put_all(sink, &[b"N9 Text byte ", digits.format(byte).as_bytes()])
+    put_all(sink, &[name, b" byte ", digits.format(byte).as_bytes()])
 }
 
 /// Puts a reason: its code and name, and its place or its numbers.
@@ -134,7 +135,7 @@ fn put_reason<S: Sink>(sink: &mut S, reason: Reason) -> Result<(), Failed>
             expression,
             cost,
             sum,
-        } => put_value(sink, function, expression, cost, sum),
+        } => put_value(sink, b"N7 Value", function, expression, cost, sum),
         Reason::Rank {
             function,
             expression,
@@ -144,7 +145,7 @@ fn put_reason<S: Sink>(sink: &mut S, reason: Reason) -> Result<(), Failed>
             function,
             expression,
         } => put_entry(sink, b"N10 Places", function, expression),
-        Reason::Text { byte } => put_byte(sink, byte),
+        Reason::Text { byte } => put_byte(sink, b"N9 Text", byte),
     }
 }
 
