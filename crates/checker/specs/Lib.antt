@@ -1,1 +1,4 @@
+pub mod Checked
+pub mod Numbering
+pub mod Placing
 pub mod Reasons

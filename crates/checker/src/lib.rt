@@ -2,7 +2,12 @@
 #![tactic(auto)]
 
 mod checking;
+mod faults;
+mod lengths;
 pub mod numbered;
+mod placing;
+mod sums;
+mod texts;
 pub mod verdict;
 
 pub use checking::check_all;

@@ -1,0 +1,10 @@
+mod Carried
+mod Endings
+mod Faulty
+mod Fitting
+mod Growing
+mod Grown
+mod Inserting
+mod Numbering
+mod Sound
+mod Verdicts
