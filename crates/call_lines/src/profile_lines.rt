@@ -95,10 +95,7 @@ fn put_unreached<S: Sink>(sink: &mut S, function: u32, block: u32) -> Result<(),
 }
 
 /// Puts what the line of a refused profile says behind the file's name.
-pub fn put_refused_profile<S: Sink>(
-    sink: &mut S,
-    problem: ProfileProblem,
-) -> Result<(), Failed>
+pub fn put_refused_profile<S: Sink>(sink: &mut S, problem: ProfileProblem) -> Result<(), Failed>
     ensures { Puts (refused_profile_text problem) result (S.state sink.old) (S.state sink.new) }
 {
     match problem {

@@ -114,7 +114,14 @@ fn put_reason<S: Sink>(sink: &mut S, reason: Reason) -> Result<(), Failed>
             function,
             expression,
             point,
-        } => put_at(sink, b"N3 Incorrect", function, expression, b" point ", point),
+        } => put_at(
+            sink,
+            b"N3 Incorrect",
+            function,
+            expression,
+            b" point ",
+            point,
+        ),
         Reason::Unsafe {
             function,
             expression,

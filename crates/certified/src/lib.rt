@@ -5,10 +5,9 @@ mod placements;
 
 ghost use Rattle.certified.specs.Laws.{CertifiedAreBest, GoodIsBest, OneCertified};
 
-pub use placements::placements_of;
-
 use function_graphs::{certified_is_best, events_exist};
 use one_transformed::{best_stays, one_numbering, one_transformed};
+pub use placements::placements_of;
 
 /// The placement of a good entry of an expression that can't trap is the best one.
 pub fn good_is_best()

@@ -56,10 +56,7 @@ struct Parts<'m, 'a> {
 }
 
 /// What is chosen in the functions, part by part.
-fn split<'m, 'a>(
-    alloc: Global,
-    chosen: Vec<Chosen<'m, 'a>>,
-) -> Result<Parts<'m, 'a>, NoMemory>
+fn split<'m, 'a>(alloc: Global, chosen: Vec<Chosen<'m, 'a>>) -> Result<Parts<'m, 'a>, NoMemory>
     ensures placed { IfOk result (λ parts. parts.placed.items ≡ map (λ c. c.placed) chosen.entry.items) }
     ensures functions { IfOk result (λ parts. parts.functions.items ≡ map (λ c. c.entries) chosen.entry.items) }
 {

@@ -27,11 +27,7 @@ use std::alloc::Global;
 const CERTIFICATE_LIMIT: u64 = (1 << 63) - 1;
 
 /// Reads a file of any length.
-fn read_whole<'a, H: Host>(
-    alloc: Global,
-    host: &mut H,
-    name: &'a str,
-) -> Result<Vec<u8>, Stop<'a>>
+fn read_whole<'a, H: Host>(alloc: Global, host: &mut H, name: &'a str) -> Result<Vec<u8>, Stop<'a>>
     requires { IsTrue ((H.state host.old).may_read name.now) }
     ensures read { IfOk result (λ bytes. IsTrue (H.state host.old).tells → (H.state host.old).file name.now ≡ Some bytes.items) }
     ensures stops { IfErr result (StopsReadingWhole name.now (H.state host.old) (H.state host.new)) }
