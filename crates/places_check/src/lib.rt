@@ -11,10 +11,17 @@ ghost use Rattle.best_choice.specs.Best.{IsPlacementOn};
 ghost use Rattle.best_placement.specs.Laws.{IsReadOffOn};
 ghost use Rattle.function_graphs.specs.Graphs.{IsIn, graph_of};
 
+mod cursor;
+mod walking;
+
+use crate::cursor::Cursor;
+use crate::walking::{Expression, pass_block};
 use expressions::Table;
+use function_graphs::{functions_have_graphs, placements_agree};
 use ir_types::syntax::Function;
 use placement::Placement;
-use point_graph::Points;
+use point_graph::{Points, block_at};
+use read_off::read_off_is_bits;
 
 /// Whether the placement is the one that is read off a set of nodes of the block network of an expression.
 ///
@@ -37,5 +44,30 @@ pub fn check_places(
     ensures { (counts : FnCounts) (reached : ℕ → Bool) (event : ℕ → Event) → IsIn function.now points.now table.now e reached event
         → IsTrue result ↔ IsReadOffOn (graph_of function.now points.now counts reached event) (λ v. slice_index_or sink_side.now v false) placement.now }
 {
-    unimplemented!()
+    functions_have_graphs();
+    placements_agree();
+    read_off_is_bits();
+    let expression = Expression {
+        function,
+        points,
+        table,
+        number: e,
+    };
+    let mut inserted = Cursor::new(placement.inserted.as_slice());
+    let mut kept = Cursor::new(placement.kept.as_slice());
+    inserted.pass(sink_side[2]);
+    kept.pass(false);
+    let blocks = points.blocks.as_slice();
+    for (place, number) in blocks.iter().enumerate() {
+        let block = block_at(function, *number);
+        pass_block(
+            &mut inserted,
+            &mut kept,
+            &expression,
+            sink_side,
+            place,
+            block,
+        );
+    }
+    inserted.is_done() && kept.is_done()
 }

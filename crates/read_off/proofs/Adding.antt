@@ -34,12 +34,12 @@ none_snoc : (e v n : ℕ) → none (steps_from e v (suc n)) ≡ none (steps_from
 none_snoc e v zero = refl
 none_snoc e v (suc n) = ap (λ l. false ∷ l) (none_snoc (suc e) (suc v) n)
 
-last_snoc : (event : ℕ → Event) (before : Event) (e v n : ℕ) → last_event event before (steps_from e v (suc n)) ≡ event_after (event (v + n)) (last_event event before (steps_from e v n))
+pub last_snoc : (event : ℕ → Event) (before : Event) (e v n : ℕ) → last_event event before (steps_from e v (suc n)) ≡ event_after (event (v + n)) (last_event event before (steps_from e v n))
 last_snoc event before e v zero = ap (λ x. event_after (event x) before) (let q : v ≡ v + 0 = omega arith in q)
 last_snoc event before e v (suc n) = last_snoc event (event_after (event v) before) (suc e) (suc v) n
     ∙ ap (λ x. event_after (event x) (last_event event (event_after (event v) before) (steps_from (suc e) (suc v) n))) (let q : suc v + n ≡ v + suc n = omega arith in q)
 
-kept_snoc : (event : ℕ → Event) (head : Bool) (before : Event) (e v n : ℕ) →
+pub kept_snoc : (event : ℕ → Event) (head : Bool) (before : Event) (e v n : ℕ) →
     kept_along event head before (steps_from e v (suc n)) ≡ kept_along event head before (steps_from e v n) ++ (is_occurrence (event (v + n)) && is_owed (last_event event before (steps_from e v n)) head) ∷ []
 kept_snoc event head before e v zero = ap (λ x. (is_occurrence (event x) && is_owed before head) ∷ []) (let q : v ≡ v + 0 = omega arith in q)
 kept_snoc event head before e v (suc n) = ap (λ l. (is_occurrence (event v) && is_owed before head) ∷ l) (kept_snoc event head (event_after (event v) before) (suc e) (suc v) n
@@ -105,7 +105,7 @@ reads_step event head n ins ins' ins'' kept kept' kept'' before here last x h r 
     subst (λ y. ReadsSteps event head (n + 1) ins ins'' kept kept'' y) (sym l)
     (reads_more event head n ins ins' ins'' kept kept' kept'' before here r e h (subst (λ y. Adds (y ∷ []) kept' kept'') b k))
 
-slots_as_bits : (nodes : ℕ → Bool) (end : Bool) (e : ℕ) (targets : List ℕ) → inserted_slots nodes end (slots_from e targets) ≡ map (λ t. not end && nodes (head_node t)) targets
+pub slots_as_bits : (nodes : ℕ → Bool) (end : Bool) (e : ℕ) (targets : List ℕ) → inserted_slots nodes end (slots_from e targets) ≡ map (λ t. not end && nodes (head_node t)) targets
 slots_as_bits nodes end e [] = refl
 slots_as_bits nodes end e (t ∷ targets) = ap (λ l. (not end && nodes (head_node t)) ∷ l) (slots_as_bits nodes end (suc e) targets)
 
@@ -156,11 +156,11 @@ blocks_snoc index point edge [] s = ap (λ i. block_from i point edge s ∷ []) 
 blocks_snoc index point edge (a ∷ shapes) s = ap (λ l. block_from index point edge a ∷ l) (blocks_snoc (suc index) (next_point point a) (next_edge edge a) shapes s
     ∙ ap (λ i. blocks_from (suc index) (next_point point a) (next_edge edge a) shapes ++ block_from i (points_from (next_point point a) shapes) (edges_from (next_edge edge a) shapes) s ∷ []) (let q : suc index + length shapes ≡ index + length (a ∷ shapes) = omega arith in q))
 
-points_snoc : (point : ℕ) (shapes : List Shape) (s : Shape) → points_from point (shapes ++ s ∷ []) ≡ next_point (points_from point shapes) s
+pub points_snoc : (point : ℕ) (shapes : List Shape) (s : Shape) → points_from point (shapes ++ s ∷ []) ≡ next_point (points_from point shapes) s
 points_snoc point [] s = refl
 points_snoc point (a ∷ shapes) s = points_snoc (next_point point a) shapes s
 
-edges_snoc : (edge : ℕ) (shapes : List Shape) (s : Shape) → edges_from edge (shapes ++ s ∷ []) ≡ next_edge (edges_from edge shapes) s
+pub edges_snoc : (edge : ℕ) (shapes : List Shape) (s : Shape) → edges_from edge (shapes ++ s ∷ []) ≡ next_edge (edges_from edge shapes) s
 edges_snoc edge [] s = refl
 edges_snoc edge (a ∷ shapes) s = edges_snoc (next_edge edge a) shapes s
 

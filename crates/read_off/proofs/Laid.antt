@@ -44,23 +44,21 @@ module _ (f : Function) (p : Points) (keeps : KeepsRules f) (defined : 0 < lengt
   same : at.block ≡ block
   same = same_block f p keeps defined are i b block there is no_counts no_test
 
-  module _ (event : ℕ → Event) (nodes : ℕ → Bool) (ins kept : SetBits) (reads : (c : FnCounts) (reached : ℕ → Bool) → ReadsBlocks event nodes (take i (map (shape f p c reached) p.blocks)) ins kept) where
-    pub points_room : kept.next + length block.instrs + 2 ≤ length p.points
-    points_room =
-        let l = slice_get_within p.points (suc point + length at.block.instrs) (Term b) at.term in
-        let n : length at.block.instrs ≡ length block.instrs = ap (λ x. length x.instrs) same in
-        let k = (reads no_counts no_test).after_points in
-        omega (arith, l, n, k)
+  -- the points and the edges of the block at these numbers are there
+  pub points_room : (next : ℕ) → next ≡ points_from 1 (take i (map (shape f p no_counts no_test) p.blocks)) → next + length block.instrs + 2 ≤ length p.points
+  points_room next k =
+      let l = slice_get_within p.points (suc point + length at.block.instrs) (Term b) at.term in
+      let n : length at.block.instrs ≡ length block.instrs = ap (λ x. length x.instrs) same in
+      omega (arith, l, n, k)
 
-    pub edges_room : ins.next + length block.instrs + length (slots_of block.term) + 1 ≤ length p.edges
-    edges_room =
-        let n : length at.block.instrs ≡ length block.instrs = ap (λ x. length x.instrs) same in
-        let s : length (slots_of at.block.term) ≡ length (slots_of block.term) = ap (λ x. length (slots_of x.term)) same in
-        let k = (reads no_counts no_test).after_edges in
-        let room = slots_room (length (slots_of at.block.term)) edge (length at.block.instrs) (length (all_edges f p.blocks))
-        (slice_get_within (all_edges f p.blocks) (edge + length at.block.instrs) (Inside b (length at.block.instrs)) (at.inside (length at.block.instrs) (omega arith)))
-        (λ k lt. slice_get_within (all_edges f p.blocks) (suc (edge + length at.block.instrs) + k) (Slot b k) (at.slot k lt)) in
-        omega (arith, room, n, s, k, zip_length (IsNumbered f p.points) (all_edges f p.blocks) p.edges are.edges)
+  pub edges_room : (next : ℕ) → next ≡ edges_from 1 (take i (map (shape f p no_counts no_test) p.blocks)) → next + length block.instrs + length (slots_of block.term) + 1 ≤ length p.edges
+  edges_room next k =
+      let n : length at.block.instrs ≡ length block.instrs = ap (λ x. length x.instrs) same in
+      let s : length (slots_of at.block.term) ≡ length (slots_of block.term) = ap (λ x. length (slots_of x.term)) same in
+      let room = slots_room (length (slots_of at.block.term)) edge (length at.block.instrs) (length (all_edges f p.blocks))
+      (slice_get_within (all_edges f p.blocks) (edge + length at.block.instrs) (Inside b (length at.block.instrs)) (at.inside (length at.block.instrs) (omega arith)))
+      (λ k lt. slice_get_within (all_edges f p.blocks) (suc (edge + length at.block.instrs) + k) (Slot b k) (at.slot k lt)) in
+      omega (arith, room, n, s, k, zip_length (IsNumbered f p.points) (all_edges f p.blocks) p.edges are.edges)
 
   module _ (places : List ℕ) (placed : ArePlaces p.blocks (length f.blocks) places) where
     module _ (event : ℕ → Event) (nodes : ℕ → Bool) (ins ins' kept kept' : SetBits) where

@@ -1,3 +1,4 @@
-mod Adding
-mod Laid
+pub mod Adding
+pub mod Laid
 mod Placing
+mod Unique

@@ -1,11 +1,13 @@
 -- The lists of a placement that is read off, as far as they are made.
-use Rattle.std.specs.Prelude.{◌≡◌, ℕ, ◌+◌, Bool, false, not, ◌&&◌, List, ◌∷◌, ◌++◌, length, map, slice_index, slice_index_or}
+use Rattle.std.specs.Prelude.{◌≡◌, ◌↔◌, ℕ, ◌+◌, Bool, false, not, ◌&&◌, List, ◌∷◌, ◌++◌, length, map, slice_index, slice_index_or}
 use Rattle.expressions.specs.declared.syntax.Event.{Event}
 use Rattle.expressions.specs.declared.syntax.Event.TheVariants.{Passes}
 use Rattle.best_placement.specs.BlockNetwork.{head_node, last_event}
 use Rattle.best_placement.specs.Shapes.{Shape, steps_from, block_from, next_point, next_edge, blocks_from, points_from}
 use Rattle.best_placement.specs.Bits.{positions, kept_along, none, inserted_in, kept_in, bits_joined}
+use Rattle.best_placement.specs.Laws.{ExpressionGraph, IsExpressionGraph, IsPlacement, IsReadOffOn}
 use Rattle.block_places.specs.Places.{edges_from}
+use Rattle.placement.specs.declared.placements.Placement.{Placement}
 use Rattle.read_off.specs.declared.bits.SetBits.{SetBits}
 
 -- the event of each point; past the points nothing is done
@@ -54,3 +56,19 @@ pub record ReadsBlocks (event : ℕ → Event) (nodes : ℕ → Bool) (shapes : 
   pub points : Holds (false ∷ bits_joined (kept_in event nodes) (blocks_from 0 1 1 shapes)) kept
   pub after_edges : inserted.next ≡ edges_from 1 shapes
   pub after_points : kept.next ≡ points_from 1 shapes
+
+-- the bits of a graph, one for each edge and one for each point in order
+abbrev pub edge_bits : ExpressionGraph → (ℕ → Bool) → List Bool
+edge_bits g nodes = nodes (head_node 0) ∷ bits_joined (inserted_in g.event nodes) g.blocks
+
+abbrev pub point_bits : ExpressionGraph → (ℕ → Bool) → List Bool
+point_bits g nodes = false ∷ bits_joined (kept_in g.event nodes) g.blocks
+
+-- the lists of a placement are the numbers of the set bits
+pub record HasBits (g : ExpressionGraph) (nodes : ℕ → Bool) (p : Placement) : Type 0 where
+  pub inserted : p.inserted ≡ positions 0 (edge_bits g nodes)
+  pub kept : p.kept ≡ positions 0 (point_bits g nodes)
+
+-- a placement is read off a set of nodes exactly where its lists are the numbers of the set bits
+abbrev pub ReadOffIsBits : Type 0
+ReadOffIsBits = (g : ExpressionGraph) (nodes : ℕ → Bool) (p : Placement) → IsExpressionGraph g → IsPlacement g p → IsReadOffOn g nodes p ↔ HasBits g nodes p

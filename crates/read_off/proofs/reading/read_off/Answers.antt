@@ -2,7 +2,7 @@ use Rattle.std.proofs.Common.{Bool, length, get_or, sym, ap, subst, arith, refl}
 use Rattle.expressions.specs.Tables.{IsEventOf}
 use Rattle.point_graph.specs.Numbers.{KeepsRules}
 use Rattle.placement.specs.Marking.{AreEvents}
-use Rattle.block_places.proofs.Standing.{block_there, targets_fit, placed_as, blocks_within, blocks_few}
+use Rattle.block_places.proofs.Standing.{block_there, targets_fit, placed_as, blocks_within, blocks_few, no_counts, no_test}
 use Rattle.read_off.specs.Bits.{event_at}
 use Rattle.read_off.proofs.Adding.{reads_no_blocks}
 use Rattle.read_off.proofs.Laid.{points_room, edges_room, next_block, all_read}
@@ -33,7 +33,7 @@ read_block-requires-clause-edges c =
     let keeps : KeepsRules c.args.function.now = record { module_of = c.args.table.now.module_of; rules = c.requires.table.rules } in
     let r = edges_room c.args.function.now c.args.points.now keeps c.requires.defined c.requires.points c.loop-place.place (get_or c.as_slice-blocks.result.now c.loop-place.place 0) c.block_at-block.result.now
     (block_there c.args.points.now.blocks c.as_slice-blocks.result.now c.loop-place.place c.as_slice-blocks.ensures c.loop-place-test.true) c.block_at-block.ensures
-    (event_at c.as_slice-events.result.now) (λ v. get_or c.args.sink_side.now v Bool.false) c.loop-place.inserted c.loop-place.kept c.loop-place.invariant in
+    c.loop-place.inserted.next (c.loop-place.invariant no_counts no_test).after_edges in
     let few = c.requires.points.few in
     omega (arith, r, few)
 
@@ -42,7 +42,7 @@ read_block-requires-clause-points c =
     let keeps : KeepsRules c.args.function.now = record { module_of = c.args.table.now.module_of; rules = c.requires.table.rules } in
     let r = points_room c.args.function.now c.args.points.now keeps c.requires.defined c.requires.points c.loop-place.place (get_or c.as_slice-blocks.result.now c.loop-place.place 0) c.block_at-block.result.now
     (block_there c.args.points.now.blocks c.as_slice-blocks.result.now c.loop-place.place c.as_slice-blocks.ensures c.loop-place-test.true) c.block_at-block.ensures
-    (event_at c.as_slice-events.result.now) (λ v. get_or c.args.sink_side.now v Bool.false) c.loop-place.inserted c.loop-place.kept c.loop-place.invariant in
+    c.loop-place.kept.next (c.loop-place.invariant no_counts no_test).after_points in
     let few = c.requires.points.few in
     omega (arith, r, few)
 
@@ -51,7 +51,7 @@ read_block-requires-clause-events c =
     let keeps : KeepsRules c.args.function.now = record { module_of = c.args.table.now.module_of; rules = c.requires.table.rules } in
     let r = points_room c.args.function.now c.args.points.now keeps c.requires.defined c.requires.points c.loop-place.place (get_or c.as_slice-blocks.result.now c.loop-place.place 0) c.block_at-block.result.now
     (block_there c.args.points.now.blocks c.as_slice-blocks.result.now c.loop-place.place c.as_slice-blocks.ensures c.loop-place-test.true) c.block_at-block.ensures
-    (event_at c.as_slice-events.result.now) (λ v. get_or c.args.sink_side.now v Bool.false) c.loop-place.inserted c.loop-place.kept c.loop-place.invariant in
+    c.loop-place.kept.next (c.loop-place.invariant no_counts no_test).after_points in
     let l = c.in_ok-listed_events.ensures.len in
     let s = ap length c.as_slice-events.ensures.value in
     omega (arith, r, l, s)
