@@ -1,5 +1,5 @@
 -- The block network of an expression: that there is one, and that what is wrong in one is wrong in each.
-use Rattle.std.proofs.Common.{◌≡◌, ◌≢◌, ◌≤◌, ◌<◌, ◌+◌, ◌*◌, ◌⊎◌, ℕ, suc, Bool, List, [], ◌∷◌, Some, length, map, zip, All, refl, sym, ap, ◌∙◌, subst}
+use Rattle.std.proofs.Common.{◌≡◌, ◌≤◌, ◌<◌, ◌+◌, ◌*◌, ℕ, suc, Bool, List, [], ◌∷◌, Some, length, map, zip, All, refl, sym, ap, ◌∙◌, subst}
 use Rattle.std.specs.Prelude.{slice_get, ◌^◌, IfOk, Result, Ok, Err}
 use Rattle.std.specs.List.{AllZip}
 use Rattle.std.proofs.lemmas.List.{length-map}
@@ -15,20 +15,20 @@ use Rattle.local_sets.specs.Blocks.{IsBlockSets}
 use Rattle.flow_net.specs.declared.Net.{Net}
 use Rattle.flow_net.specs.declared.Arc.{Arc}
 use Rattle.flow_net.specs.declared.Flow.{Flow}
-use Rattle.flow_net.specs.Network.{IsValid, IsWithin, IsBalanced, LetsMore, ResidualArc, inflow, outflow}
-use Rattle.flow_check.specs.Faults.{IsAbove, IsFirstAbove, IsFirstUnbalanced, FallsFrom, RanksFall, IsFirstStuck}
+use Rattle.flow_net.specs.Network.{IsValid, IsWithin, IsBalanced, ResidualArc, inflow, outflow}
+use Rattle.flow_check.specs.Faults.{IsAbove, IsFirstAbove, IsFirstUnbalanced, FallsFrom, IsFirstStuck}
 use Rattle.placement.specs.declared.placements.Placement.{Placement}
 use Rattle.best_placement.specs.BlockNetwork.{constant}
 use Rattle.best_placement.specs.Shapes.{Shape, blocks_from, next_point, next_edge}
 use Rattle.best_placement.specs.Laws.{ExpressionGraph, IsBlockNetwork, cost_on}
-use Rattle.function_graphs.specs.Graphs.{EventsExist, graph_of, shape_at, IsIn}
+use Rattle.function_graphs.specs.Graphs.{EventsExist, shape_at, IsIn}
 use Rattle.reduction.specs.declared.building.BlockNet.{BlockNet}
 use Rattle.reduction.specs.Networks.{IsFullNetwork}
 use Rattle.certificate.specs.declared.types.Entry.{Entry}
 use Rattle.certified.specs.Entries.{HasProof}
 use Rattle.entry_check.specs.declared.fault.Fault.{Fault}
 use Rattle.entry_check.specs.declared.fault.Fault.TheVariants.{Lists, Missing, Incorrect, Unsafe, Capacity, Balance, Value, Rank, Places}
-use Rattle.entry_check.specs.Faults.{CostsTheFlow, FailsBy, HasFailure, IsWhole}
+use Rattle.entry_check.specs.Faults.{CostsTheFlow, FailsBy}
 use Rattle.entry_check.specs.Parts.{IsNetworkIn}
 
 -- ---- there is a graph

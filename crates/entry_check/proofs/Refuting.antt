@@ -1,5 +1,5 @@
 -- An entry with a fault isn't good.
-use Rattle.std.proofs.Common.{◌≡◌, ◌≢◌, ◌≤◌, ◌<◌, ◌+◌, ◌==◌, ◌||◌, ◌⊎◌, nat_lt, ℕ, Bool, true, false, List, ◌∷◌, Some, length, zip, get_or, refl, sym, ap, ◌∙◌, subst, inl, inr, ⊎_elim, arith, All}
+use Rattle.std.proofs.Common.{◌≡◌, ◌≢◌, ◌≤◌, ◌<◌, ◌+◌, ◌⊎◌, ℕ, true, List, length, zip, get_or, refl, sym, ap, ◌∙◌, subst, inl, inr, ⊎_elim, arith, All}
 use Rattle.std.proofs.lemmas.Option.{same_Some, slice_get_within, slice_get-get_or}
 use Rattle.std.proofs.lemmas.Bool.{cases_eq}
 use Rattle.std.proofs.lemmas.Bool.Decides.{nat_tests}
@@ -11,8 +11,8 @@ use Rattle.flow_net.specs.declared.Net.{Net}
 use Rattle.flow_net.specs.declared.Arc.{Arc}
 use Rattle.flow_net.specs.declared.Flow.{Flow}
 use Rattle.flow_net.specs.Laws.{AreFallingRanks}
-use Rattle.flow_net.specs.Network.{IsWithin, IsBalanced, ResidualArc, inflow, outflow, flow_value, loads}
-use Rattle.flow_check.specs.Faults.{IsAbove, FallsFrom, RanksFall}
+use Rattle.flow_net.specs.Network.{IsWithin, ResidualArc, inflow, outflow, loads}
+use Rattle.flow_check.specs.Faults.{IsAbove, RanksFall}
 use Rattle.placement.specs.declared.placements.Placement.{Placement}
 use Rattle.best_placement.specs.BlockNetwork.{constant}
 use Rattle.best_placement.specs.Laws.{ExpressionGraph, Certifies, cost_on, ranked}

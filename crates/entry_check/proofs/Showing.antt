@@ -1,5 +1,5 @@
 -- What the checks find, as a fault of the entry, or that it is good.
-use Rattle.std.proofs.Common.{◌≡◌, ◌≢◌, ◌≤◌, ◌<◌, ◌+◌, ◌-◌, ℕ, Bool, true, false, List, ◌∷◌, length, refl, sym, ap, ◌∙◌, subst, arith}
+use Rattle.std.proofs.Common.{◌≡◌, ◌≢◌, ◌+◌, ℕ, Bool, true, false, List, length, refl, sym, ap, ◌∙◌, subst, arith}
 use Rattle.std.specs.Prelude.{slice_index_or, IfOk, IfSome, MatchOption, Option, Some, None, Result, Ok, Err}
 use Rattle.std.proofs.lemmas.Bool.{false≢true, true≢false}
 use Rattle.std.proofs.lemmas.Option.{same_Some}
@@ -24,7 +24,7 @@ use Rattle.best_placement.specs.BlockNetwork.{constant}
 use Rattle.function_graphs.specs.Graphs.{PlacementsAgree, graph_of, IsIn}
 use Rattle.reduction.specs.declared.building.BlockNet.{BlockNet}
 use Rattle.certificate.specs.declared.types.Entry.{Entry}
-use Rattle.certified.specs.Entries.{CanTrap, CertifiesIn, HasProof, IsGood, IsListed, IsPlain, IsRight, rank_in}
+use Rattle.certified.specs.Entries.{CanTrap, CertifiesIn, IsGood, IsListed, IsPlain, IsRight, rank_in}
 use Rattle.entry_check.specs.declared.fault.Fault.{Fault}
 use Rattle.entry_check.specs.declared.fault.Fault.TheVariants.{Lists, Missing, Incorrect, Unsafe, Capacity, Balance, Value, Rank, Places}
 use Rattle.entry_check.specs.declared.shown.Shown.{Shown}

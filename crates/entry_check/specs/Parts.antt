@@ -20,7 +20,7 @@ use Rattle.reduction.specs.Networks.{IsNetworkOf}
 use Rattle.certificate.specs.declared.types.Entry.{Entry}
 use Rattle.certified.specs.Entries.{HasProof, IsRight}
 use Rattle.entry_check.specs.declared.fault.Fault.{Fault}
-use Rattle.entry_check.specs.declared.fault.Fault.TheVariants.{Lists, Missing, Incorrect, Unsafe, Capacity, Balance, Value, Rank, Places}
+use Rattle.entry_check.specs.declared.fault.Fault.TheVariants.{Lists, Missing, Incorrect, Unsafe, Capacity, Balance}
 use Rattle.entry_check.specs.declared.shown.Shown.{Shown}
 use Rattle.entry_check.specs.Faults.{HasFailure, InNetwork, IsFirstUnsafe, IsWhole}
 
