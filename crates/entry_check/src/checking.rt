@@ -7,8 +7,12 @@ ghost use Rattle.certified.specs.Entries.{IsGood};
 ghost use Rattle.entry_check.specs.Faults.{IsFault};
 
 use crate::fault::Fault;
+use crate::lists::are_listed;
+use crate::plain::plain_fault;
+use crate::trapping::trapping_fault;
 use certificate::Entry;
 use expressions::Table;
+use function_graphs::events_exist;
 use ir_types::syntax::Function;
 use mc_num::NoMemory;
 use point_graph::Points;
@@ -37,5 +41,13 @@ pub fn check_entry(
     // What has a fault isn't good.
     ensures not_good { IfOk result (λ fault. IfSome fault (λ _. ¬ (IsGood function.now points.now table.now counts.now e entry.now))) }
 {
-    Err(NoMemory)
+    events_exist();
+    if !are_listed(function, points, table, e, &entry.placement) {
+        return Ok(Some(Fault::Lists));
+    }
+    if table.traps(e) {
+        trapping_fault(alloc, function, points, table, e, &entry.placement)
+    } else {
+        plain_fault(alloc, function, points, table, e, counts, entry)
+    }
 }

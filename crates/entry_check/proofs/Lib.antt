@@ -1,0 +1,4 @@
+mod Networks
+mod Refuting
+mod Showing
+mod Listing
