@@ -44,7 +44,7 @@ pub(crate) fn expect_optimised(
     let program = read(alloc, source)?;
     let profile = read_profile(alloc, counts.as_bytes(), &program)?;
     let optimised = optimise(alloc, &program, &profile)?;
-    expect_module(rt, alloc, &program, &optimised, wanted)
+    expect_module(rt, alloc, &program, &optimised.module, wanted)
 }
 
 /// Expects that a text with these placements applied becomes this, or that they are not applied.

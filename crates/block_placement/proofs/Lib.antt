@@ -1,6 +1,0 @@
-mod Geometry
-mod Freshness
-mod Occurring
-mod Neighbours
-mod Growing
-mod Told
