@@ -12,8 +12,8 @@ time:
   node of each row, and the last leads to the sink.
 - Random: arcs between nodes that are drawn, four for each node.
 
-Each has about 1000, 10000, 100000 and 1000000 arcs, but a grid at most 100000: it takes ever more phases, and minutes
-for more. The time is that of the work alone: the processor time of a run that builds the network and finds its maximum
+Each has about 1000, 10000, 100000 and 1000000 arcs. A grid takes ever more phases, so the largest one takes minutes. The
+time is that of the work alone: the processor time of a run that builds the network and finds its maximum
 flow and latest cut, less that of a run that only builds it. Of several runs of each the one that used the least counts,
 and a run of more than five seconds is the only one. The time is shown for each arc, with the number of phases. The
 growth is how many times longer ten times the arcs take.
@@ -42,7 +42,7 @@ LEAST_ARCS_FOR_BAR = 10000
 CANNOT_MEASURE = 2
 
 ARCS = [1000, 10000, 100000, 1000000]
-ARCS_OF_KIND = {"chain": ARCS, "ladder": ARCS, "grid": ARCS[:3], "random": ARCS}
+KINDS = ["chain", "ladder", "grid", "random"]
 KINDS_WITH_BAR = ["chain", "ladder"]
 
 
@@ -130,7 +130,7 @@ def print_row(measured: Measured, fewer: Measured | None) -> None:
 def measure(program: Path, kind: str) -> list[Measured]:
     """Prints the lines of a kind, and gives what was measured for each number of arcs."""
     found: list[Measured] = []
-    for arcs in ARCS_OF_KIND[kind]:
+    for arcs in ARCS:
         phases = run_once(program, [kind, str(arcs), "phases"]).printed.splitlines()[-1]
         measured = Measured(kind, arcs, [], [], phases)
         fewer = found[-1] if found else None
@@ -170,7 +170,7 @@ def program_asked_for() -> Path:
 def main() -> int:
     program = program_asked_for()
     print_head()
-    measured = [measure(program, kind) for kind in ARCS_OF_KIND]
+    measured = [measure(program, kind) for kind in KINDS]
     met = [judge(found) for found in measured]
     return 0 if all(met) else 1
 

@@ -1,0 +1,124 @@
+"""Measures the time and the memory of `mcpre check`, beside those of `mcpre opt` on the same module, and how its time grows.
+
+    python3 bench/check.py [--program PROGRAM]
+
+PROGRAM is the built program, crates/mcpre/out/mcpre if none is given. The modules are the rounds of bench/opt.py: a `main`
+of so many rounds of four blocks, with its profile. `opt` writes the new module and its certificate, and `check` is given
+these four files. The bars:
+
+- `check` takes no more processor time than `opt` did.
+- Twice the rounds take at most 2.3 times the time.
+- The peak of memory is at most 30 for each byte of the four files together, where these are 2^20 bytes or more.
+
+Of several runs the one that used the least processor time counts, with more runs where a bar is missed by the first ones.
+Each run must end with status 0, so the checker must say yes.
+
+The status is 0 where no bar is missed, 1 where one is, and 2 where something could not be measured. The files are made in
+a temporary folder, which is removed. Linux alone.
+"""
+
+import sys
+import tempfile
+from pathlib import Path
+from typing import NamedTuple
+
+import opt
+
+MOST_MEMORY = 30.0
+
+
+class Checked(NamedTuple):
+    """What the runs of `opt` and of `check` took on a module."""
+
+    files: opt.Files
+    opt_runs: list[opt.Run]
+    runs: list[opt.Run]
+    # The bytes of the module, the profile, the new module and the certificate.
+    length: int
+
+    def best(self) -> opt.Run:
+        return opt.least(self.runs)
+
+    def share_of_opt(self) -> float:
+        return self.best().processor_seconds / opt.least(self.opt_runs).processor_seconds
+
+    def peak_of_byte(self) -> float:
+        return self.best().peak_bytes / self.length
+
+
+def run_check(program: Path, files: opt.Files) -> opt.Run:
+    names = [str(name) for name in names_of(files)]
+    return opt.run_once([str(program), "check", *names], files.module.with_suffix(".errors"))
+
+
+def names_of(files: opt.Files) -> list[Path]:
+    return [files.module, files.profile, files.output, files.certificate]
+
+
+def run_both(program: Path, checked: Checked, count: int) -> None:
+    """Adds so many runs of each command, by turns."""
+    for _ in range(count):
+        checked.opt_runs.append(opt.run_program(program, checked.files))
+        checked.runs.append(run_check(program, checked.files))
+
+
+def growth_of(half: Checked, whole: Checked) -> float:
+    return whole.best().processor_seconds / half.best().processor_seconds
+
+
+def misses_bar(half: Checked | None, checked: Checked) -> bool:
+    return checked.share_of_opt() > 1 or (half is not None and growth_of(half, checked) > opt.MOST_GROWTH)
+
+
+def measure(program: Path, folder: Path) -> dict[int, Checked]:
+    """Prints a line for each number of rounds, and gives what was measured."""
+    print(f"{'module':<16}{'bytes':>11}{'runs':>6}{'check':>9}{'opt':>9}{'of it':>7}{'peak/byte':>11}{'growth':>8}")
+    found: dict[int, Checked] = {}
+    for size in opt.ROUNDS:
+        files = opt.make_files(folder, opt.FAMILIES[0], size)
+        opt.run_program(program, files)
+        checked = Checked(files, [], [], sum(name.stat().st_size for name in names_of(files)))
+        half = found.get(size // 2)
+        run_both(program, checked, opt.RUNS)
+        for _ in range(opt.MORE_RUNS):
+            if not misses_bar(half, checked):
+                break
+            run_both(program, checked, 1)
+        growth = "" if half is None else f"{growth_of(half, checked):.2f}"
+        print(
+            f"{files.title:<16}{checked.length:>11}{len(checked.runs):>6}{checked.best().processor_seconds:>9.3f}"
+            f"{opt.least(checked.opt_runs).processor_seconds:>9.3f}{checked.share_of_opt():>7.2f}"
+            f"{checked.peak_of_byte():>11.2f}{growth:>8}",
+            flush=True,
+        )
+        found[size] = checked
+    return found
+
+
+def judge(found: dict[int, Checked]) -> bool:
+    """Prints each bar, and gives whether all are met."""
+    met = []
+    for size, checked in found.items():
+        title = checked.files.title
+        share = checked.share_of_opt()
+        met.append(opt.holds(share <= 1, f"{title}: at most the time of opt ({share:.2f} of it)"))
+        half = found.get(size // 2)
+        if half is not None:
+            growth = growth_of(half, checked)
+            bar = f"{title}: at most {opt.MOST_GROWTH} times the time of {half.files.title} ({growth:.2f})"
+            met.append(opt.holds(growth <= opt.MOST_GROWTH, bar))
+        if checked.length >= opt.LEAST_TEXT_FOR_MEMORY:
+            peak = checked.peak_of_byte()
+            met.append(opt.holds(peak <= MOST_MEMORY, f"{title}: at most {MOST_MEMORY:.0f} bytes of memory for a byte ({peak:.2f})"))
+    return all(met)
+
+
+def main() -> int:
+    program = opt.program_asked_for("Measures the time and the memory of mcpre check.")
+    with tempfile.TemporaryDirectory(prefix="mcpre-bench-") as name:
+        found = measure(program, Path(name))
+    return 0 if judge(found) else 1
+
+
+if __name__ == "__main__":
+    sys.exit(main())
