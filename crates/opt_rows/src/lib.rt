@@ -10,5 +10,9 @@ mod runs;
 mod sources;
 #[cfg(test)]
 mod tests;
+#[cfg(test)]
+mod traps;
+#[cfg(test)]
+mod zeros;
 
 pub use checking::checked_apply;

@@ -2,6 +2,7 @@
 
 use crate::checking::checked_apply;
 use crate::runs::expect_same_run;
+use crate::zeros::never_run;
 use ir_printer::print;
 use ir_reader::read;
 use ir_types::module::Module;
@@ -45,6 +46,28 @@ pub(crate) fn expect_optimised(
     let profile = read_profile(alloc, counts.as_bytes(), &program)?;
     let optimised = optimise(alloc, &program, &profile)?;
     expect_module(rt, alloc, &program, &optimised.module, wanted)
+}
+
+/// Expects that each module of a table, optimised by the profile of one that was never run, ends and shows on each of these
+/// inputs what it did. Gives how many of the runs trapped.
+pub(crate) fn expect_same_traps(
+    rt: &impl Abort,
+    alloc: Global,
+    table: &str,
+    inputs: &[&[u8]],
+) -> Result<usize, Fail> {
+    let mut trapped = 0;
+    for text in table.split("====\n") {
+        let program = read(alloc, text.as_bytes())?;
+        let counts = never_run(alloc, &program)?;
+        let profile = read_profile(alloc, counts.as_bytes(), &program)?;
+        let optimised = optimise(alloc, &program, &profile)?;
+        for bytes in inputs {
+            let end = expect_same_run(rt, alloc, &program, &optimised.module, bytes)?;
+            trapped += usize::from(end.starts_with("division"));
+        }
+    }
+    Ok(trapped)
 }
 
 /// Expects that a text with these placements applied becomes this, or that they are not applied.

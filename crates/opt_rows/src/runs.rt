@@ -12,6 +12,7 @@ fn name_of(end: &RunEnd) -> &'static str {
     match end {
         RunEnd::Returned(_, _) => "returned",
         RunEnd::Trapped(Trap::DivZero) => "division by zero",
+        RunEnd::Trapped(Trap::DivOverflow) => "division of the least value by -1",
         RunEnd::Trapped(_) => "another trap",
         RunEnd::StepLimit => "step limit",
         RunEnd::ReadFault => "read fault",
@@ -34,18 +35,19 @@ fn ran(alloc: Global, program: &Module<'_>, bytes: &[u8]) -> Result<(RunEnd, Mem
     Ok((end, out))
 }
 
-/// Expects that two modules, run on some bytes, return the same value or end by the same cause, and show the same.
+/// Expects that two modules, run on some bytes, return the same value or end by the same cause, and show the same. Gives
+/// the cause.
 pub(crate) fn expect_same_run(
     rt: &impl Abort,
     alloc: Global,
     old: &Module<'_>,
     new: &Module<'_>,
     bytes: &[u8],
-) -> Result<(), Fail> {
+) -> Result<&'static str, Fail> {
     let (wanted, shown) = ran(alloc, old, bytes)?;
     let (end, written) = ran(alloc, new, bytes)?;
     assert_eq!(rt; name_of(&end), name_of(&wanted));
     assert!(rt; value_of(&end) == value_of(&wanted));
     assert_eq!(rt; written.written(), shown.written());
-    Ok(())
+    Ok(name_of(&wanted))
 }

@@ -1,5 +1,6 @@
-use crate::outcomes::{expect_applied, expect_optimised};
+use crate::outcomes::{expect_applied, expect_optimised, expect_same_traps};
 use crate::sources::*;
+use crate::traps::TRAPS;
 use std::test::Fail;
 
 #[test]
@@ -43,6 +44,28 @@ fn divisions_that_can_trap_move_where_they_are_inevitable(rt: HostRuntime) -> Re
     for (text, counts, wanted) in rows {
         expect_optimised(&rt, rt.alloc(), text, counts, wanted)?;
     }
+    Ok(())
+}
+
+/// Bytes that make the divisors of `TRAPS` zero, or the least value and -1, or neither.
+const TRAPPING: &[&[u8]] = &[
+    b"00",
+    b"A1",
+    b"\x80\xff",
+    b"\x00\xff",
+    b"\x80\x00",
+    b"B",
+    b"dB",
+    b"zC",
+    b"\xff1",
+    b"",
+];
+
+/// Of the five modules of `TRAPS` one, two, all ten, one and one of these runs trap.
+#[test]
+fn divisions_trap_where_they_did(rt: HostRuntime) -> Result<(), Fail> {
+    let trapped = expect_same_traps(&rt, rt.alloc(), TRAPS, TRAPPING)?;
+    assert_eq!(rt; trapped, 15);
     Ok(())
 }
 
