@@ -1,6 +1,6 @@
 #!/bin/sh
-# Proves and builds mcpre, prints a shipped module, runs another one, and optimises a third. It works in the folder
-# example/ beside it.
+# Proves and builds mcpre, prints a shipped module, runs another one, optimises a third, and checks its certificate. It
+# works in the folder example/ beside it.
 set -u
 
 fail() {
@@ -24,12 +24,13 @@ plain=example/square.ll
 counts=example/square.prof
 optimised=example/square.opt.ll
 certificate=example/square.json
+broken=example/broken.json
 
 cd "$(dirname "$0")" || fail "the folder of this script can't be entered"
 command -v rt >/dev/null || fail "the command rt of the toolchain is not on the PATH"
 
 step mkdir -p example
-step rm -f "$output" "$expected" "$profile" "$counts" "$optimised" "$certificate"
+step rm -f "$output" "$expected" "$profile" "$counts" "$optimised" "$certificate" "$broken"
 step cp crates/mcpre/data/a.ll "$input"
 step cp crates/mcpre/data/upper.ll "$running"
 step cp crates/mcpre/data/square.ll "$plain"
@@ -133,3 +134,16 @@ again=$(echo AC | "$program" run 1000 "$optimised" - 2>&1) || fail "the run of t
 echo "$again"
 [ "$again" = "$shown" ] || fail "the optimised module showed something else"
 echo "the example was optimised as it should"
+
+# The checker says yes to the certificate. With one unit more on the first arc, which then is above its capacity, it says no.
+step "$program" check "$plain" "$counts" "$optimised" "$certificate"
+echo "the checker says yes"
+echo "+ sed s/1048576/1048577/ $certificate > $broken"
+sed s/1048576/1048577/ "$certificate" >"$broken" || fail "$broken can't be written"
+echo "+ $program check $plain $counts $optimised $broken"
+answer=$("$program" check "$plain" "$counts" "$optimised" "$broken" 2>&1)
+status=$?
+echo "$answer"
+[ "$status" = 6 ] || fail "the checker ended with status $status"
+[ "$answer" = "mcpre: no: N5 Capacity function 0 expression 0 arc 0" ] || fail "the checker said something else"
+echo "the checker said no to the broken certificate, as it should"
