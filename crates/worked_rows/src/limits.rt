@@ -1,153 +1,222 @@
 //! Texts at the limits of a function, and at the limit of a text.
 
-use crate::runs::{print, run};
-use mc_host::MemHost;
+use crate::problem::Problem;
+use crate::tally::Tally;
+use mc_host::{FirmSink, FirmSource, MemHost, MemSink};
 use std::alloc::{AllocError, Global};
-use std::process::Abort;
-use std::test::Fail;
+use top_call::mcpre;
 
-// A front, so many times a piece, and a rest.
+/// How a command over a text ends: the status, the line, and how many bytes o.ll holds, if it is there.
+#[derive(Drop)]
+pub struct Printed {
+    pub status: u8,
+    pub line: String,
+    pub size: Option<usize>,
+}
+
+/// A function with many times the same at its beginning, which is within the limits with one rest and above them with
+/// another.
+#[derive(Clone, Copy)]
+struct Limit {
+    title: &'static str,
+    front: &'static str,
+    piece: &'static str,
+    pieces: u32,
+    within: &'static str,
+    above: &'static str,
+}
+
+/// Instructions (allocas and terminators are none), blocks, slots (which `ret` has none of), and variables.
+const LIMITS: [Limit; 4] = [
+    Limit {
+        title: "The most instructions of a function, and one more",
+        front: "define void @f(){alloca i8 ",
+        piece: "add i8 0,0 ",
+        pieces: 262_143,
+        within: "add i8 0,0 ret void}",
+        above: "add i8 0,0 add i8 0,0 ret void}",
+    },
+    Limit {
+        title: "The most blocks of a function, and one more",
+        front: "define void @f(){",
+        piece: "unreachable ",
+        pieces: 65_535,
+        within: "ret void}",
+        above: "unreachable ret void}",
+    },
+    Limit {
+        title: "The most slots of a function, and one more",
+        front: "define void @f(){",
+        piece: "br i1 0,label%1,label%1 ",
+        pieces: 65_534,
+        within: "switch i8 0,label%1[i8 0,label%1 i8 1,label%1]br label%1}",
+        above: "switch i8 0,label%1[i8 0,label%1 i8 1,label%1]br i1 0,label%1,label%1}",
+    },
+    Limit {
+        title: "The most variables of a function, and one more",
+        front: "define void @f(){",
+        piece: "alloca i1 ",
+        pieces: 1_048_575,
+        within: "alloca i1 add i8 0,0 ret void}",
+        above: "alloca i1 alloca i1 ret void}",
+    },
+];
+
+/// Runs these words over these files.
+fn run(alloc: Global, words: &[&str], files: Vec<(String, Vec<u8>)>) -> Result<Printed, Problem> {
+    let mut owned = Vec::new(alloc);
+    for word in words {
+        owned.push(String::from_str(alloc, word)?)?;
+    }
+    let mut host = MemHost::new(files, Vec::new(alloc));
+    let mut input = FirmSource::new(Vec::new(alloc));
+    let mut out = FirmSink::new(alloc);
+    let mut err = MemSink::new(alloc, 200, Vec::new(alloc))?;
+    let status = mcpre(alloc, &owned, &mut host, &mut input, &mut out, &mut err);
+    Ok(Printed {
+        status,
+        line: String::from_utf8_lossy(alloc, err.written())?,
+        size: host.file("o.ll").map(|bytes| bytes.len()),
+    })
+}
+
+/// Prints a text into o.ll.
+pub fn print(alloc: Global, text: Vec<u8>) -> Result<Printed, Problem> {
+    let mut files = Vec::new(alloc);
+    files.push((String::from_str(alloc, "a.ll")?, text))?;
+    run(alloc, &["print", "a.ll", "o.ll"], files)
+}
+
+impl Printed {
+    /// Whether it was refused with this line, and wrote nothing.
+    fn is_refused(&self, line: &str) -> bool {
+        self.status == 1 && self.line.as_str() == line && self.size.is_none()
+    }
+}
+
+/// A front, so many times a piece, and a rest.
 fn text_of(
     alloc: Global,
     front: &str,
     piece: &str,
-    pieces: usize,
+    pieces: u32,
     rest: &str,
-) -> Result<String, AllocError> {
-    let mut text = String::from_str(alloc, front)?;
+) -> Result<Vec<u8>, AllocError> {
+    let mut text = Vec::from_slice(alloc, front.as_bytes())?;
     for _ in 0..pieces {
-        text.push_str(piece)?;
+        text.extend_from_slice(piece.as_bytes())?;
     }
-    text.push_str(rest)?;
+    text.extend_from_slice(rest.as_bytes())?;
     Ok(text)
 }
 
-// Expects what printing a text comes to: its status, its line, and how many bytes are written, if they are, or a first
-// part of these.
-fn expect_size(rt: &impl Abort, alloc: Global, source: &[u8], wanted: &str) -> Result<(), Fail> {
-    let printed = print(alloc, source)?;
-    let size = printed.written.as_ref().map(String::len);
-    let told = format!(in alloc; "{} {}{size:?}", printed.status, printed.line)?;
-    assert!(rt; told.starts_with(wanted), "{told}");
-    Ok(())
-}
-
-// Expects that a body that begins with many times the same is within the limits with one rest, and above with another.
-fn expect_limit(
-    rt: &impl Abort,
-    alloc: Global,
-    front: &str,
-    piece: &str,
-    pieces: usize,
-    rests: (&str, &str),
-) -> Result<(), Fail> {
-    let (within, above) = rests;
-    let text = text_of(alloc, front, piece, pieces, within)?;
-    expect_size(rt, alloc, text.as_bytes(), "0 Some(")?;
-    let text = text_of(alloc, front, piece, pieces, above)?;
-    let wanted = "1 mcpre: a.ll:1: E15 Limit @f\nNone";
-    expect_size(rt, alloc, text.as_bytes(), wanted)
-}
-
-/// Instructions (allocas and terminators are none), blocks, slots (which `ret` has none of), and variables.
-#[test]
-fn both_sides_of_each_limit(rt: HostRuntime) -> Result<(), Fail> {
-    let alloc = rt.alloc();
-    let rests = ("add i8 0,0 ret void}", "add i8 0,0 add i8 0,0 ret void}");
-    expect_limit(
-        &rt,
-        alloc,
-        "define void @f(){alloca i8 ",
-        "add i8 0,0 ",
-        262_143,
-        rests,
-    )?;
-    let rests = ("ret void}", "unreachable ret void}");
-    expect_limit(
-        &rt,
-        alloc,
-        "define void @f(){",
-        "unreachable ",
-        65_535,
-        rests,
-    )?;
-    let rests = (
-        "switch i8 0,label%1[i8 0,label%1 i8 1,label%1]br label%1}",
-        "switch i8 0,label%1[i8 0,label%1 i8 1,label%1]br i1 0,label%1,label%1}",
-    );
-    let branch = "br i1 0,label%1,label%1 ";
-    expect_limit(&rt, alloc, "define void @f(){", branch, 65_534, rests)?;
-    let rests = (
-        "alloca i1 add i8 0,0 ret void}",
-        "alloca i1 alloca i1 ret void}",
-    );
-    expect_limit(
-        &rt,
-        alloc,
-        "define void @f(){",
-        "alloca i1 ",
-        1_048_575,
-        rests,
-    )
-}
-
-#[test]
-fn the_longest_text(rt: HostRuntime) -> Result<(), Fail> {
-    let alloc = rt.alloc();
-    let most = text_of(alloc, "", ";", 67_108_864, "")?;
-    expect_size(&rt, alloc, most.as_bytes(), "0 Some(0)")?;
-    let more = text_of(alloc, "", ";", 67_108_864, ";")?;
-    expect_size(
-        &rt,
-        alloc,
-        more.as_bytes(),
-        "1 mcpre: a.ll: E1 TooLong\nNone",
-    )
-}
-
-// The lines `define void @fK(){unreachable}`, where K goes up from 0000000 by seven digits.
-fn functions(alloc: Global, count: u32) -> Result<String, Fail> {
-    let mut text = String::new(alloc);
+/// So many functions, each a line, with numbers of seven digits from 0 on in their names.
+fn functions(alloc: Global, count: u32) -> Result<Vec<u8>, AllocError> {
+    let mut text = Vec::new(alloc);
     for number in 0..count {
         let line = format!(in alloc; "define void @f{number:07}(){{unreachable}}\n")?;
-        text.push_str(&line)?;
+        text.extend_from_slice(line.as_bytes())?;
     }
     Ok(text)
 }
 
-#[test]
-fn a_text_that_grows(rt: HostRuntime) -> Result<(), Fail> {
-    let alloc = rt.alloc();
-    let most = functions(alloc, 1_458_888)?;
-    expect_size(&rt, alloc, most.as_bytes(), "0 Some(67108847)")?;
-    let more = functions(alloc, 1_500_000)?;
-    expect_size(
-        &rt,
-        alloc,
-        more.as_bytes(),
-        "1 mcpre: a.ll: E17 Grown\nNone",
-    )
+impl Limit {
+    fn run(&self, rt: &HostRuntime, tally: &mut Tally) -> Result<(), Problem> {
+        let alloc = rt.alloc();
+        let mut own = Tally::new();
+        let text = text_of(alloc, self.front, self.piece, self.pieces, self.within)?;
+        own.count(print(alloc, text)?.status == 0);
+        let text = text_of(alloc, self.front, self.piece, self.pieces, self.above)?;
+        own.count(print(alloc, text)?.is_refused("mcpre: a.ll:1: E15 Limit @f\n"));
+        tally.close(rt, self.title, own)
+    }
 }
 
-// Expects how a profile of so many spaces is refused.
-fn expect_blank(rt: &impl Abort, alloc: Global, count: usize, line: &str) -> Result<(), Fail> {
-    let mut profile = Vec::new(alloc);
-    profile.resize(count, b' ')?;
+/// A comment of as many bytes as a text may have, and one more.
+fn longest_text(alloc: Global) -> Result<Tally, Problem> {
+    let mut tally = Tally::new();
+    let printed = print(alloc, text_of(alloc, "", ";", 1 << 26, "")?)?;
+    tally.count(printed.status == 0 && printed.line.is_empty() && printed.size == Some(0));
+    let printed = print(alloc, text_of(alloc, "", ";", 1 << 26, ";")?)?;
+    tally.count(printed.is_refused("mcpre: a.ll: E1 TooLong\n"));
+    Ok(tally)
+}
+
+/// Texts that print to more bytes than they have.
+fn growing_text(alloc: Global) -> Result<Tally, Problem> {
+    let mut tally = Tally::new();
+    let printed = print(alloc, functions(alloc, 1_458_888)?)?;
+    tally.count(printed.status == 0 && printed.size == Some(67_108_847));
+    let printed = print(alloc, functions(alloc, 1_500_000)?)?;
+    tally.count(printed.is_refused("mcpre: a.ll: E17 Grown\n"));
+    Ok(tally)
+}
+
+/// How a profile of so many spaces is refused.
+fn blank_profile(alloc: Global, spaces: u32) -> Result<Printed, Problem> {
     let program = Vec::from_slice(alloc, b"define void @main() { ret void }")?;
     let mut files = Vec::new(alloc);
     files.push((String::from_str(alloc, "a.ll")?, program))?;
+    let profile = text_of(alloc, "", " ", spaces, "")?;
     files.push((String::from_str(alloc, "a.prof")?, profile))?;
-    let mut host = MemHost::new(files, Vec::new(alloc));
-    let words = &["opt", "a.ll", "a.prof", "o.ll", "c.json"];
-    let (status, err) = run(alloc, words, &mut host, 200)?;
-    assert_eq!(rt; err.written(), line.as_bytes());
-    assert_eq!(rt; status, 1);
-    Ok(())
+    run(alloc, &["opt", "a.ll", "a.prof", "o.ll", "c.json"], files)
 }
 
-#[test]
-fn a_profile_has_at_most_as_many_bytes_as_a_text(rt: HostRuntime) -> Result<(), Fail> {
-    expect_blank(&rt, rt.alloc(), 1 << 26, "mcpre: a.prof:1: P2 Form\n")?;
-    let more = (1 << 26) + 1;
-    expect_blank(&rt, rt.alloc(), more, "mcpre: a.prof: P1 TooLong\n")
+/// A profile has at most as many bytes as a text.
+fn longest_profile(alloc: Global) -> Result<Tally, Problem> {
+    let mut tally = Tally::new();
+    let printed = blank_profile(alloc, 1 << 26)?;
+    tally.count(printed.is_refused("mcpre: a.prof:1: P2 Form\n"));
+    let printed = blank_profile(alloc, (1 << 26) + 1)?;
+    tally.count(printed.is_refused("mcpre: a.prof: P1 TooLong\n"));
+    Ok(tally)
+}
+
+/// How `check` ends over an OUT of so many spaces, and a CERT that is none.
+fn blank_text(alloc: Global, spaces: u32) -> Result<Printed, Problem> {
+    let mut files = Vec::new(alloc);
+    files.push((String::from_str(alloc, "a.ll")?, Vec::new(alloc)))?;
+    let profile = Vec::from_slice(alloc, b"mcpre-profile 1\n")?;
+    files.push((String::from_str(alloc, "a.prof")?, profile))?;
+    let text = text_of(alloc, "", " ", spaces, "")?;
+    files.push((String::from_str(alloc, "b.ll")?, text))?;
+    files.push((String::from_str(alloc, "c.json")?, Vec::new(alloc)))?;
+    run(alloc, &["check", "a.ll", "a.prof", "b.ll", "c.json"], files)
+}
+
+/// The OUT of `check` has at most as many bytes as a text.
+fn longest_out(alloc: Global) -> Result<Tally, Problem> {
+    let mut tally = Tally::new();
+    let printed = blank_text(alloc, 1 << 26)?;
+    tally.count(printed.is_refused("mcpre: c.json: C1 Form /\n"));
+    let printed = blank_text(alloc, (1 << 26) + 1)?;
+    tally.count(printed.is_refused("mcpre: b.ll: E1 TooLong\n"));
+    Ok(tally)
+}
+
+/// Runs the rows of what is at a limit.
+pub fn run_limits(rt: &HostRuntime, tally: &mut Tally) -> Result<(), Problem> {
+    for limit in &LIMITS {
+        limit.run(rt, tally)?;
+    }
+    tally.close(
+        rt,
+        "The longest text, and one more byte",
+        longest_text(rt.alloc())?,
+    )?;
+    tally.close(
+        rt,
+        "The longest text that is printed, and more",
+        growing_text(rt.alloc())?,
+    )?;
+    tally.close(
+        rt,
+        "The longest profile, and one more byte",
+        longest_profile(rt.alloc())?,
+    )?;
+    tally.close(
+        rt,
+        "The longest text that is checked, and one more byte",
+        longest_out(rt.alloc())?,
+    )
 }
