@@ -22,13 +22,13 @@ pub fn run_prefixes(rt: &HostRuntime, texts: &Texts<'_>, tally: &mut Tally) -> R
 /// The prefixes that end before a blank. What isn't accepted is refused at the end.
 fn prefixes_of_tokens(alloc: Global, text: &str) -> Result<Tally, Problem> {
     let mut tally = Tally::new();
-    let mut accepted = 0;
+    let mut accepted: u64 = 0;
     for (end, byte) in text.as_bytes().iter().enumerate() {
         if *byte == b' ' || *byte == b'\n' {
             let (front, _) = text.as_bytes().split_at(end);
             let printed = print(alloc, Vec::from_slice(alloc, front)?)?;
             if printed.status == 0 {
-                accepted += 1;
+                accepted = accepted.saturating_add(1);
             }
             tally.count(printed.status == 0 || stops_at_its_end(alloc, front, &printed)?);
         }
