@@ -7,6 +7,7 @@ ghost use Rattle.point_graph.specs.Numbers.{ArePoints};
 ghost use Rattle.expressions.specs.declared.syntax.Event.{Event as EventOf};
 ghost use Rattle.expressions.specs.Tables.{IsEventOf, IsTable};
 ghost use Rattle.profile.specs.Counts.{HasSlots, IsUnreachedZero, total};
+ghost use Rattle.block_counts.specs.Counts.{AreBlockCounts};
 ghost use Rattle.flow_net.specs.Network.{IsValid, IsWithin, IsBalanced, flow_value};
 ghost use Rattle.flow_check.specs.Faults.{IsFirstStuck, RanksFall};
 ghost use Rattle.placement.specs.Costs.{cost_of};
@@ -19,13 +20,15 @@ ghost use Rattle.entry_check.specs.Parts.{IsFlowFault, IsNetworkIn, HasPlaces, r
 
 use crate::fault::Fault;
 use crate::shown::Shown;
+use block_counts::{BlockCounts, block_counts};
+use counted_costs::cost_by_blocks;
 use expressions::Table;
 use flow_check::{check_flow, check_ranks};
 use flow_net::{Flow, Net, value};
 use function_graphs::placements_agree;
 use ir_types::syntax::Function;
 use mc_num::NoMemory;
-use placement::{Placement, cost};
+use placement::Placement;
 use places_check::check_places;
 use point_graph::Points;
 use profile::FnCounts;
@@ -63,10 +66,12 @@ pub fn proof_fault(
     if let Some(fault) = flow_fault(alloc, &full.net, &shown.flow)? {
         return Ok(Some(fault));
     }
+    let by_block = block_counts(alloc, function, counts)?;
     if let Some((cost, sum)) = cost_and_sum(
         function,
         points,
         counts,
+        &by_block,
         placement,
         full,
         &shown.flow,
@@ -104,6 +109,7 @@ fn cost_and_sum(
     function: &Function<'_>,
     points: &Points,
     counts: &FnCounts,
+    by_block: &BlockCounts,
     placement: &Placement,
     full: &BlockNet,
     flow: &Flow,
@@ -111,6 +117,7 @@ fn cost_and_sum(
     requires slots { HasSlots function.now counts.now }
     requires unreached { IsUnreachedZero function.now counts.now }
     requires total { total counts.now < 2 ^ 62 }
+    requires counts { AreBlockCounts function.now counts.now by_block.now }
     requires inserted_ascending { IsStrictlyIncreasing placement.now.inserted }
     requires inserted { All (λ edge. edge < length points.now.edges) placement.now.inserted }
     requires kept_ascending { IsStrictlyIncreasing placement.now.kept }
@@ -122,7 +129,7 @@ fn cost_and_sum(
         (cost_of function.now counts.now reached points.now placement.now ≡ flow_value full.now.net flow.now + full.now.constant)
         (λ pair. (pair.0 ≡ cost_of function.now counts.now reached points.now placement.now) × (pair.1 ≡ flow_value full.now.net flow.now + full.now.constant) × (pair.0 ≢ pair.1)) }
 {
-    let cost = cost(function, points, counts, placement);
+    let cost = cost_by_blocks(function, points, counts, by_block, placement);
     let sum = value(&full.net, flow) + full.constant;
     if cost == sum { None } else { Some((cost, sum)) }
 }
