@@ -48,24 +48,39 @@ pub(crate) fn expect_optimised(
     expect_module(rt, alloc, &program, &optimised.module, wanted)
 }
 
-/// Expects that each module of a table, optimised by the profile of one that was never run, ends and shows on each of these
-/// inputs what it did. Gives how many of the runs trapped.
+/// Expects that a module, optimised by the profile of one that was never run, ends and shows on each of these inputs what
+/// it did. Gives how many of the runs trapped.
+fn traps_of(
+    rt: &impl Abort,
+    alloc: Global,
+    text: &str,
+    inputs: &[&[u8]],
+) -> Result<usize, Fail> {
+    let source = text.as_bytes();
+    assert!(rt; source.len() < 2000);
+    let program = read(alloc, source)?;
+    let counts = never_run(alloc, &program)?;
+    assert!(rt; counts.len() < 2000);
+    let profile = read_profile(alloc, counts.as_bytes(), &program)?;
+    let optimised = optimise(alloc, &program, &profile)?;
+    let mut trapped: usize = 0;
+    for bytes in inputs {
+        let end = expect_same_run(rt, alloc, &program, &optimised.module, bytes)?;
+        trapped = trapped.saturating_add(usize::from(end.starts_with("division")));
+    }
+    Ok(trapped)
+}
+
+/// Expects of each module of a table what `traps_of` says, and gives how many of all the runs trapped.
 pub(crate) fn expect_same_traps(
     rt: &impl Abort,
     alloc: Global,
     table: &str,
     inputs: &[&[u8]],
 ) -> Result<usize, Fail> {
-    let mut trapped = 0;
+    let mut trapped: usize = 0;
     for text in table.split("====\n") {
-        let program = read(alloc, text.as_bytes())?;
-        let counts = never_run(alloc, &program)?;
-        let profile = read_profile(alloc, counts.as_bytes(), &program)?;
-        let optimised = optimise(alloc, &program, &profile)?;
-        for bytes in inputs {
-            let end = expect_same_run(rt, alloc, &program, &optimised.module, bytes)?;
-            trapped += usize::from(end.starts_with("division"));
-        }
+        trapped = trapped.saturating_add(traps_of(rt, alloc, text, inputs)?);
     }
     Ok(trapped)
 }
