@@ -50,12 +50,7 @@ pub(crate) fn expect_optimised(
 
 /// Expects that a module, optimised by the profile of one that was never run, ends and shows on each of these inputs what
 /// it did. Gives how many of the runs trapped.
-fn traps_of(
-    rt: &impl Abort,
-    alloc: Global,
-    text: &str,
-    inputs: &[&[u8]],
-) -> Result<usize, Fail> {
+fn traps_of(rt: &impl Abort, alloc: Global, text: &str, inputs: &[&[u8]]) -> Result<usize, Fail> {
     let source = text.as_bytes();
     assert!(rt; source.len() < 2000);
     let program = read(alloc, source)?;
