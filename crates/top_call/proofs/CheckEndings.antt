@@ -20,7 +20,7 @@ use Rattle.call_lines.specs.declared.ending.Stop.TheVariants.{Usage, Refused, Re
 use Rattle.call_lines.specs.Ending.{Ending, status_of}
 use Rattle.top_call.specs.Row.{OptFiles}
 use Rattle.top_call.specs.Print.{ReadsAs, HasProblem, text_limit}
-use Rattle.top_call.specs.Opt.{AreAccepted, HasCounts, IsOptDone}
+use Rattle.top_call.specs.Opt.{AreAccepted, IsOptDone}
 use Rattle.top_call.specs.Check.{AreChecked, CheckEnds, HasBadCertificate, HasCertificate, HasCheckProblem, HasText, IsAgreed, IsCheckDone, IsDenied, KeepsCheckRules, SaysYes}
 use Rattle.top_call.proofs.Endings.{same_program}
 use Rattle.top_call.proofs.OptEndings.{carried, keeps_rules, no_problem, same_content}

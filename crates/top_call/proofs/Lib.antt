@@ -1,3 +1,4 @@
+mod Accepting
 mod CheckEndings
 mod CheckLemmas
 pub mod Endings
@@ -6,6 +7,7 @@ pub mod OptEndings
 pub mod OptLemmas
 mod ReadLemmas
 pub mod Mains
+pub mod ReportEndings
 pub mod Rows
 pub mod RunEndings
 pub mod RunLemmas

@@ -19,7 +19,8 @@ use Rattle.call_lines.specs.Ending.{Ending, status_of}
 use Rattle.top_call.specs.Row.{OptFiles}
 use Rattle.call_lines.specs.RefusedProfile.{problem_of}
 use Rattle.top_call.specs.Print.{ReadsAs, HasProblem}
-use Rattle.top_call.specs.Opt.{OptEnds, AreAccepted, AreOptimisable, HasBadProfile, HasCounts, HasOptProblem, HasFileProblem, HasGrown, KeepsRules, IsFit, IsGrown, IsOutput}
+use Rattle.top_call.specs.Accepted.{HasBadProfile, HasCounts}
+use Rattle.top_call.specs.Opt.{OptEnds, AreAccepted, AreOptimisable, HasOptProblem, HasFileProblem, HasGrown, KeepsRules, IsFit, IsGrown, IsOutput}
 use Rattle.top_call.proofs.Endings.{same_program, not_long, not_refused}
 
 -- an error that tells a problem isn't want of memory

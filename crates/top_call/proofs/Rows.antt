@@ -2,6 +2,7 @@
 use Rattle.std.proofs.Common.{◌≡◌, ◌<◌, ℕ, List, Option, None, Some, Ok, Err, IsTrue, ◌⊎◌, inl, inr, refl, sym, ap, subst, ◌∙◌, arith}
 use Rattle.std.specs.Prelude.{◌↔◌, IsNone}
 use Rattle.mc_num.specs.declared.op.Trap.{Trap}
+use Rattle.mc_host.specs.Host.{HostState}
 use Rattle.ir_types.specs.Program.{Program}
 use Rattle.ir_types.specs.WellFormed.{IsWellFormed}
 use Rattle.ir_reader.specs.Reading.{HasOneAnswer}
@@ -10,13 +11,15 @@ use Rattle.call_lines.specs.declared.ending.Done.{Done}
 use Rattle.call_lines.specs.declared.ending.Done.TheVariants.{Written, Checked, Returned}
 use Rattle.call_lines.specs.declared.ending.Stop.TheVariants.{Usage, Refused, ReadFault, WriteFault, OutOfMemory, No, Trapped, StepLimit}
 use Rattle.call_lines.specs.Ending.{Ending, status_of}
-use Rattle.top_call.specs.Row.{Row, Print, Run, Opt, Check}
+use Rattle.top_call.specs.Row.{Row, Print, Run, Opt, Check, Report, Itself}
+use Rattle.top_call.specs.Report.{HasPutPart, IsReported, IsSummarised}
 use Rattle.top_call.specs.World.{World, AreStill}
-use Rattle.top_call.specs.Top.{Ends, IsAccepted, IsRowDenied, IsTrapped, IsAtLimit, IsDone, IsPartlyDone, HasReadFault, HasWriteFault, IsQuiet, HasMoved, IsRefused, AreRead, IsTooLarge}
+use Rattle.top_call.specs.Top.{Ends, IsAccepted, IsRowDenied, IsTrapped, IsAtLimit, IsDone, IsPartlyDone, HasReadFault, HasWriteFault, IsQuiet, IsSilent, HasMoved, IsRefused, AreRead, IsTooLarge}
 use Rattle.checker.specs.declared.verdict.Reason.{Reason}
 use Rattle.top_call.proofs.CheckEndings.{OneCertificate, check_not_done, check_complete, check_deny}
 use Rattle.top_call.proofs.Endings.{print_not_done, print_complete, print_grown}
 use Rattle.top_call.proofs.OptEndings.{OneOptimised, opt_not_done, opt_complete, opt_grown}
+use Rattle.top_call.proofs.ReportEndings.{report_not_done, report_complete, report_moved, report_silent, itself_not_done, itself_complete, itself_moved, itself_silent}
 use Rattle.top_call.proofs.RunEndings.{run_not_done, run_complete, run_traps, run_ends_nothing, run_trapped, run_limited, run_moved, run_still}
 
 -- the ending of a status
@@ -66,6 +69,9 @@ module _ (one : (bytes : List ℕ) → HasOneAnswer bytes) (old new : World) (en
   not_done once held one_profile (Some (Run limit input profile)) ends tells refused = run_not_done one limit input profile old new ending ends tells refused.0 refused.1
   not_done once held one_profile (Some (Opt files)) ends tells refused = opt_not_done one one_profile files old.host once new.host ending ends.0 tells refused
   not_done once held one_profile (Some (Check files)) ends tells refused = check_not_done one one_profile held files old.host new.host ending ends.0 tells refused
+  not_done once held one_profile (Some (Report input counted_by)) ends tells refused =
+      report_not_done one one_profile input counted_by old.host new.host old.out new.out ending ends.0 tells refused
+  not_done once held one_profile (Some (Itself n)) ends tells refused = itself_not_done n old.out new.out once ending ends.0 refused
 
   pub complete : OneCertificate → (one_profile : (m : Program) → IsWellFormed m → (bytes : List ℕ) → profile.HasOneAnswer m bytes) → (row : Option Row) → Ends row old new ending → IsTrue old.host.tells → IsAccepted row old
       → ¬ (HasReadFault row old new) → ¬ (HasWriteFault row old new) → (status_of ending ≡ 0) ⊎ (status_of ending ≡ 5)
@@ -76,6 +82,9 @@ module _ (one : (bytes : List ℕ) → HasOneAnswer bytes) (old new : World) (en
       run_complete one limit input profile old new ending ends tells accepted.0 accepted.1 reads writes
   complete held one_profile (Some (Opt files)) ends tells accepted reads writes = opt_complete one one_profile files old.host new.host ending ends.0 tells accepted reads writes
   complete held one_profile (Some (Check files)) ends tells accepted reads writes = check_complete one one_profile held files old.host new.host ending ends.0 tells accepted reads
+  complete held one_profile (Some (Report input counted_by)) ends tells accepted reads writes =
+      report_complete one one_profile input counted_by old.host new.host old.out new.out ending ends.0 tells accepted.0 accepted.1 reads writes
+  complete held one_profile (Some (Itself n)) ends tells accepted reads writes = itself_complete n old.out new.out ending ends.0 accepted writes
 
   pub grown : (one_profile : (m : Program) → IsWellFormed m → (bytes : List ℕ) → profile.HasOneAnswer m bytes) → (row : Option Row) → Ends row old new ending → IsTrue old.host.tells → AreRead row old
       → ¬ (HasReadFault row old new) → ¬ (HasWriteFault row old new) → (status_of ending ≡ 0) ⊎ (status_of ending ≡ 5) ⊎ ((status_of ending ≡ 1) × IsTooLarge row old)
@@ -86,6 +95,8 @@ module _ (one : (bytes : List ℕ) → HasOneAnswer bytes) (old new : World) (en
   grown one_profile (Some (Opt files)) ends tells read reads writes =
       opt_grown one one_profile files old.host new.host ending ends.0 tells read.0 read.1 reads writes
   grown one_profile (Some (Check files)) ends tells read reads writes = absurd read
+  grown one_profile (Some (Report input counted_by)) ends tells read reads writes = absurd read
+  grown one_profile (Some (Itself n)) ends tells read reads writes = absurd read
 
   pub traps : (row : Option Row) → Ends row old new ending → IsTrue old.host.tells → IsTrue old.input.tells → IsTrapped row old
       → (status_of ending ≡ 7) ⊎ (status_of ending ≡ 3) ⊎ (status_of ending ≡ 4) ⊎ (status_of ending ≡ 5)
@@ -93,6 +104,8 @@ module _ (one : (bytes : List ℕ) → HasOneAnswer bytes) (old new : World) (en
   traps (Some (Print input output)) ends tells told trap = absurd trap
   traps (Some (Opt files)) ends tells told trap = absurd trap
   traps (Some (Check files)) ends tells told trap = absurd trap
+  traps (Some (Report input counted_by)) ends tells told trap = absurd trap
+  traps (Some (Itself n)) ends tells told trap = absurd trap
   traps (Some (Run limit input profile)) ends tells told trap = run_traps one limit input profile old new ending ends tells told trap
 
   pub ends_nothing : (row : Option Row) → Ends row old new ending → IsTrue old.host.tells → IsTrue old.input.tells → IsAtLimit row old
@@ -101,26 +114,61 @@ module _ (one : (bytes : List ℕ) → HasOneAnswer bytes) (old new : World) (en
   ends_nothing (Some (Print input output)) ends tells told stands = absurd stands
   ends_nothing (Some (Opt files)) ends tells told stands = absurd stands
   ends_nothing (Some (Check files)) ends tells told stands = absurd stands
+  ends_nothing (Some (Report input counted_by)) ends tells told stands = absurd stands
+  ends_nothing (Some (Itself n)) ends tells told stands = absurd stands
   ends_nothing (Some (Run limit input profile)) ends tells told stands = run_ends_nothing one limit input profile old new ending ends tells told stands
 
-  pub moved : (row : Option Row) → Ends row old new ending → IsTrue old.host.tells → HasMoved row old new
-  moved None ends tells = record { input = ap (λ (w : World). w.input) ends.1; out = ap (λ (w : World). w.out) ends.1 }
-  moved (Some (Print input output)) ends tells = ends.1
-  moved (Some (Opt files)) ends tells = ends.1
-  moved (Some (Check files)) ends tells = ends.1
-  moved (Some (Run limit input profile)) ends tells = run_moved one limit input profile old new ending ends tells
-
-  pub still : (row : Option Row) → Ends row old new ending → (status : ℕ) → status ≡ status_of ending → IsQuiet row old new status → AreStill old new
-  still None ends status is quiet = record { input = ap (λ (w : World). w.input) ends.1; out = ap (λ (w : World). w.out) ends.1 }
-  still (Some (Print input output)) ends status is quiet = ends.1
-  still (Some (Opt files)) ends status is quiet = ends.1
-  still (Some (Check files)) ends status is quiet = ends.1
-  still (Some (Run limit input profile)) ends status is quiet = run_still one limit input profile old new ending ends (by quiet)
+  pub moved : (one_profile : (m : Program) → IsWellFormed m → (bytes : List ℕ) → profile.HasOneAnswer m bytes) → (row : Option Row) → Ends row old new ending → IsTrue old.host.tells → HasMoved row old new
+  moved one_profile None ends tells = record { input = ap (λ (w : World). w.input) ends.1; out = ap (λ (w : World). w.out) ends.1 }
+  moved one_profile (Some (Print input output)) ends tells = ends.1
+  moved one_profile (Some (Opt files)) ends tells = ends.1
+  moved one_profile (Some (Check files)) ends tells = ends.1
+  moved one_profile (Some (Report input counted_by)) ends tells = by (report_moved one one_profile input counted_by old.host new.host old.out new.out ending ends.0 tells)
     where
-      by : IsQuiet (Some (Run limit input profile)) old new status → IsQuiet (Some (Run limit input profile)) old new (status_of ending)
-      by (inl e) = inl (sym is ∙ e)
-      by (inr (inl both)) = inr (inl (sym is ∙ both.0, both.1))
-      by (inr (inr both)) = inr (inr both)
+      by : (new.out ≡ old.out) ⊎ ((text : List ℕ) × IsReported input counted_by old.host text × HasPutPart text old.out new.out) → HasMoved (Some (Report input counted_by)) old new
+      by (inl still) = inl (record { input = ends.1; out = still })
+      by (inr put) = inr (ends.1, put.0, put.1, put.2)
+  moved one_profile (Some (Itself n)) ends tells = by (itself_moved n old.out new.out ending ends.0)
+    where
+      by : (new.out ≡ old.out) ⊎ ((text : List ℕ) × IsSummarised n text × HasPutPart text old.out new.out) → HasMoved (Some (Itself n)) old new
+      by (inl still) = inl (record { input = ends.1; out = still })
+      by (inr put) = inr (ends.1, put.0, put.1, put.2)
+  moved one_profile (Some (Run limit input profile)) ends tells = run_moved one limit input profile old new ending ends tells
+
+  run_by : (limit : ℕ) (input : List ℕ) (profile : Option (List ℕ)) (status : ℕ) → status ≡ status_of ending
+      → IsQuiet (Some (Run limit input profile)) old new status → IsQuiet (Some (Run limit input profile)) old new (status_of ending)
+  run_by limit input profile status is (inl e) = inl (sym is ∙ e)
+  run_by limit input profile status is (inr (inl both)) = inr (inl (sym is ∙ both.0, both.1))
+  run_by limit input profile status is (inr (inr both)) = inr (inr both)
+
+  -- nothing was taken
+  pub untaken : (row : Option Row) → Ends row old new ending → (status : ℕ) → status ≡ status_of ending → IsQuiet row old new status → new.input ≡ old.input
+  untaken None ends status is quiet = ap (λ (w : World). w.input) ends.1
+  untaken (Some (Print input output)) ends status is quiet = ends.1.input
+  untaken (Some (Opt files)) ends status is quiet = ends.1.input
+  untaken (Some (Check files)) ends status is quiet = ends.1.input
+  untaken (Some (Report input counted_by)) ends status is quiet = ends.1
+  untaken (Some (Itself n)) ends status is quiet = ends.1
+  untaken (Some (Run limit input profile)) ends status is quiet =
+      (run_still one limit input profile old new ending ends (run_by limit input profile status is quiet)).input
+
+  status_by : (status : ℕ) → status ≡ status_of ending → (status ≡ 1) ⊎ (status ≡ 3) ⊎ (status ≡ 5)
+      → (status_of ending ≡ 1) ⊎ (status_of ending ≡ 3) ⊎ (status_of ending ≡ 5)
+  status_by status is (inl e) = inl (sym is ∙ e)
+  status_by status is (inr (inl e)) = inr (inl (sym is ∙ e))
+  status_by status is (inr (inr e)) = inr (inr (sym is ∙ e))
+
+  -- nothing was put
+  pub silent : (row : Option Row) → Ends row old new ending → (status : ℕ) → status ≡ status_of ending → IsSilent row old new status → new.out ≡ old.out
+  silent None ends status is quiet = ap (λ (w : World). w.out) ends.1
+  silent (Some (Print input output)) ends status is quiet = ends.1.out
+  silent (Some (Opt files)) ends status is quiet = ends.1.out
+  silent (Some (Check files)) ends status is quiet = ends.1.out
+  silent (Some (Report input counted_by)) ends status is quiet =
+      report_silent input counted_by old.host new.host old.out new.out ending ends.0 (status_by status is quiet)
+  silent (Some (Itself n)) ends status is quiet = itself_silent n old.out new.out ending ends.0 (status_by status is quiet)
+  silent (Some (Run limit input profile)) ends status is quiet =
+      (run_still one limit input profile old new ending ends (run_by limit input profile status is quiet)).out
 
 -- ---- the cause of a status
 
@@ -130,6 +178,8 @@ module _ (old new : World) where
   trapped_so (Some (Print input output)) trap ends tells told = absurd ends.0
   trapped_so (Some (Opt files)) trap ends tells told = absurd ends.0
   trapped_so (Some (Check files)) trap ends tells told = absurd ends.0
+  trapped_so (Some (Report input counted_by)) trap ends tells told = absurd ends.0
+  trapped_so (Some (Itself n)) trap ends tells told = absurd ends.0
   trapped_so (Some (Run limit input profile)) trap ends tells told = run_trapped limit input profile old new trap ends tells told
 
   limited_so : (row : Option Row) (steps : ℕ) → Ends row old new (Err (StepLimit steps)) → IsTrue old.host.tells → IsTrue old.input.tells → IsAtLimit row old
@@ -137,6 +187,8 @@ module _ (old new : World) where
   limited_so (Some (Print input output)) steps ends tells told = absurd ends.0
   limited_so (Some (Opt files)) steps ends tells told = absurd ends.0
   limited_so (Some (Check files)) steps ends tells told = absurd ends.0
+  limited_so (Some (Report input counted_by)) steps ends tells told = absurd ends.0
+  limited_so (Some (Itself n)) steps ends tells told = absurd ends.0
   limited_so (Some (Run limit input profile)) steps ends tells told = run_limited limit input profile old new steps ends tells told
 
   done_so : (row : Option Row) (done : Done) → Ends row old new (Ok done) → IsTrue old.host.tells → IsDone row old new
@@ -153,6 +205,12 @@ module _ (old new : World) where
   done_so (Some (Check files)) Checked ends tells = (ends.0.1 tells, ends.0.0)
   done_so (Some (Check files)) Written ends tells = absurd ends.0
   done_so (Some (Check files)) (Returned value) ends tells = absurd ends.0
+  done_so (Some (Report input counted_by)) Written ends tells = let made = ends.0.1 tells in (ends.0.0, made.0, made.1, made.2)
+  done_so (Some (Report input counted_by)) Checked ends tells = absurd ends.0
+  done_so (Some (Report input counted_by)) (Returned value) ends tells = absurd ends.0
+  done_so (Some (Itself n)) Written ends tells = (ends.2, ends.0.0, ends.0.1, ends.0.2)
+  done_so (Some (Itself n)) Checked ends tells = absurd ends.0
+  done_so (Some (Itself n)) (Returned value) ends tells = absurd ends.0
 
   -- a write failed, or memory ran out
   unwritten_so : (row : Option Row) (name : _) → Ends row old new (Err (WriteFault name)) → IsTrue old.host.tells → IsPartlyDone row old new
@@ -163,6 +221,8 @@ module _ (old new : World) where
   unwritten_so (Some (Opt files)) name ((rose, inl fault), still) tells = let made = fault.2 tells in inr (made.0, made.1, inl (made.2, fault.1))
   unwritten_so (Some (Opt files)) name ((rose, inr fault), still) tells = let made = fault.1 tells in inr (made.0, made.1, inr (made.2, made.3))
   unwritten_so (Some (Check files)) name ends tells = absurd ends.0
+  unwritten_so (Some (Report input counted_by)) name ends tells = ends.0.0
+  unwritten_so (Some (Itself n)) name ends tells = ap (λ (host : HostState). host.file) ends.2
 
   memory_so : (row : Option Row) → Ends row old new (Err OutOfMemory) → IsTrue old.host.tells → IsPartlyDone row old new
   memory_so None ends tells = absurd (let e = ap status_of ends.0 in omega (arith, e))
@@ -170,6 +230,8 @@ module _ (old new : World) where
   memory_so (Some (Run limit input profile)) ends tells = (ends tells).1
   memory_so (Some (Opt files)) ends tells = ends.0 tells
   memory_so (Some (Check files)) ends tells = ends.0
+  memory_so (Some (Report input counted_by)) ends tells = ends.0.0
+  memory_so (Some (Itself n)) ends tells = ap (λ (host : HostState). host.file) ends.2
 
   pub trapped : (row : Option Row) (ending : Ending) → Ends row old new ending → (status : ℕ) → status ≡ status_of ending → IsTrue old.host.tells → IsTrue old.input.tells → status ≡ 7 → IsTrapped row old
   trapped row ending ends status is tells told seven =
@@ -211,6 +273,8 @@ module _ (old new : World) where
   deny one held one_profile (Some (Print input output)) ending ends tells denied = absurd denied
   deny one held one_profile (Some (Run limit input profile)) ending ends tells denied = absurd denied
   deny one held one_profile (Some (Opt files)) ending ends tells denied = absurd denied
+  deny one held one_profile (Some (Report input counted_by)) ending ends tells denied = absurd denied
+  deny one held one_profile (Some (Itself n)) ending ends tells denied = absurd denied
   deny one held one_profile (Some (Check files)) ending ends tells denied = check_deny one one_profile held files old.host new.host ending ends.0 tells denied
 
   no_at : (ending : Ending) → status_of ending ≡ 6 → (reason : Reason) × (ending ≡ Err (No reason))
@@ -229,6 +293,8 @@ module _ (old new : World) where
   denied_so (Some (Print input output)) reason ends tells = absurd ends.0
   denied_so (Some (Run limit input profile)) reason ends tells = absurd ends
   denied_so (Some (Opt files)) reason ends tells = absurd ends.0
+  denied_so (Some (Report input counted_by)) reason ends tells = absurd ends.0
+  denied_so (Some (Itself n)) reason ends tells = absurd ends.0
   denied_so (Some (Check files)) reason ends tells = (ends.0.1 tells).denied
 
   pub denied : (row : Option Row) (ending : Ending) → Ends row old new ending → (status : ℕ) → status ≡ status_of ending → IsTrue old.host.tells → status ≡ 6 → IsRowDenied row old.host
@@ -254,6 +320,8 @@ module _ (old new : World) where
   never_usage (Run limit input profile) ends = ends
   never_usage (Opt files) ends = ends.0
   never_usage (Check files) ends = ends.0
+  never_usage (Report input counted_by) ends = ends.0
+  never_usage (Itself n) ends = ends.0
 
   some_none : (row : Row) → IsNone (Some row) → ⊥
   some_none row e = cc

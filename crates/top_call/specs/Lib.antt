@@ -3,7 +3,9 @@ pub mod Row
 pub mod Command
 pub mod Print
 pub mod Run
+pub mod Accepted
 pub mod Opt
 pub mod Check
+pub mod Report
 pub mod Stops
 pub mod Top

@@ -9,63 +9,31 @@ use Rattle.ir_printer.specs.Text.{text_of}
 use Rattle.ir_reader.specs.Reading.{ReadsBack}
 use Rattle.ir_machine.specs.Same.{Same}
 use Rattle.profile.specs.declared.counts.FnCounts.{FnCounts}
-use Rattle.profile.specs.declared.reading.ProfileError.{ProfileError}
-use Rattle.profile.specs.Reading as profile
 use Rattle.certificate.specs.declared.types.Certificate.{Certificate}
 use Rattle.certificate.specs.Holds.{Holds}
 use Rattle.certificate.specs.Text.{json}
 use Rattle.certified.specs.Certified.{AreAllBest, IsYes}
 use Rattle.optimise.specs.Optimised.{HasTooMany, IsOptimised, IsOptimisedBy}
 use Rattle.call_lines.specs.declared.ending.Problem.{Problem}
-use Rattle.call_lines.specs.declared.ending.Problem.TheVariants.{TooLong, Text, Grown, LongProfile, BadProfile}
-use Rattle.call_lines.specs.declared.ending.ProfileProblem.{ProfileProblem}
+use Rattle.call_lines.specs.declared.ending.Problem.TheVariants.{Grown}
 use Rattle.call_lines.specs.declared.ending.Done.TheVariants.{Written}
 use Rattle.call_lines.specs.declared.ending.Stop.TheVariants.{Refused, ReadFault, WriteFault, OutOfMemory}
 use Rattle.call_lines.specs.Ending.{Ending}
 use Rattle.top_call.specs.Row.{OptFiles}
-use Rattle.top_call.specs.Print.{HasProblem, ReadsAs, text_limit}
-use Rattle.call_lines.specs.RefusedProfile.{problem_of}
+use Rattle.top_call.specs.Print.{ReadsAs, text_limit}
+use Rattle.top_call.specs.Accepted.{AreReadAs, HasReadProblem, IsUnreadOf, KeepsRead, unread_file}
 
 -- ---- what is read
 
--- the file is the profile of these counts of the module
-pub record HasCounts (host : HostState) (name : List ℕ) (program : Program) (counts : List FnCounts) : Type 0 where
-  pub content : List ℕ
-  pub holds : host.file name ≡ Some content
-  pub short : length content ≤ text_limit
-  pub reads : profile.Reads program content counts
+abbrev pub AreAccepted : OptFiles → HostState → Program → Type 0
+AreAccepted files host program = AreReadAs files.input files.profile host program
 
--- the bytes are refused as a profile of the module, with this problem
-pub record IsBadProfile (program : Program) (content : List ℕ) (problem : ProfileProblem) : Type 0 where
-  pub error : ProfileError
-  pub refuses : profile.Refuses program content error
-  pub is_problem : problem_of error ≡ Some problem
-
-pub record HasBadProfile (host : HostState) (name : List ℕ) (program : Program) (problem : ProfileProblem) : Type 0 where
-  pub content : List ℕ
-  pub holds : host.file name ≡ Some content
-  pub short : length content ≤ text_limit
-  pub bad : IsBadProfile program content problem
-
--- the module and the profile are accepted
-pub record AreAccepted (files : OptFiles) (host : HostState) (program : Program) : Type 0 where
-  pub reads : ReadsAs host files.input program
-  pub counts : List FnCounts
-  pub profile : HasCounts host files.profile program counts
-
--- a file can't be read: the module is too long or its text is refused, or else the profile is
+-- the module or the profile can't be read
 abbrev pub HasFileProblem : OptFiles → HostState → Problem → Type 0
-HasFileProblem files host TooLong = HasProblem host files.input TooLong
-HasFileProblem files host (Text refusal excerpt) = HasProblem host files.input (Text refusal excerpt)
-HasFileProblem files host LongProfile = (program : Program) × ReadsAs host files.input program × HasProblem host files.profile TooLong
-HasFileProblem files host (BadProfile problem) = (program : Program) × ReadsAs host files.input program × HasBadProfile host files.profile program problem
-HasFileProblem files host _ = ⊥
+HasFileProblem files host problem = HasReadProblem files.input files.profile host problem
 
--- the file that has the problem
 abbrev pub refused_file : OptFiles → Problem → List ℕ
-refused_file files LongProfile = files.profile
-refused_file files (BadProfile problem) = files.profile
-refused_file files _ = files.input
+refused_file files problem = unread_file files.input files.profile problem
 
 -- ---- what is made of it
 
@@ -109,9 +77,8 @@ HasOptProblem files host problem = HasFileProblem files host problem
 
 -- where the profile or the optimised module is refused, what the module's file reads as keeps the rules of modules
 abbrev pub KeepsRules : OptFiles → HostState → Problem → Type 0
-KeepsRules files host (BadProfile problem) = (program : Program) × ReadsAs host files.input program × IsWellFormed program
 KeepsRules files host Grown = (program : Program) × ReadsAs host files.input program × IsWellFormed program
-KeepsRules files host _ = Unit {0}
+KeepsRules files host problem = KeepsRead files.input host problem
 
 -- ---- what is written
 
@@ -169,10 +136,8 @@ IsCertificateFault files old new name =
     × (IsTrue old.tells → (program' : Program) × (output : IsOutput files old program') × (new.file files.output ≡ Some (text_of program'))
     × IsBeforeOrPart files.certificate (json output.certificate) old new)
 
--- the file that could not be read: the module's, or else the profile's
 abbrev pub IsUnread : OptFiles → HostState → (name : List ℕ) → Type 0
-IsUnread files old name =
-    (name ≡ files.input) ⊎ ((name ≡ files.profile) × (IsTrue old.tells → (program : Program) × ReadsAs old files.input program))
+IsUnread files old name = IsUnreadOf files.input files.profile old name
 
 -- the endings of `opt`, each with its cause and with what it leaves
 abbrev pub OptEnds : OptFiles → HostState → HostState → Ending → Type 0

@@ -23,8 +23,14 @@ use Rattle.certified.specs.Certified.{IsYes}
 use Rattle.checker.specs.Reasons.{IsNo}
 use Rattle.optimise.specs.Optimised.{HasTooMany, IsOptimised}
 use Rattle.profile.specs.declared.counts.FnCounts.{FnCounts}
-use Rattle.top_call.specs.Opt.{IsBadProfile, IsFit, IsGrown, IsShownBy, LeavesParts}
+use Rattle.top_call.specs.Accepted.{IsBadProfile}
+use Rattle.top_call.specs.Opt.{IsFit, IsGrown, IsShownBy, LeavesParts}
 use Rattle.call_lines.specs.Refused.{place_of, excerpt_at}
+use Rattle.mc_host.specs.Streams.{SinkState}
+use Rattle.placement.specs.declared.placements.Placement.{Placement}
+use Rattle.optimise.specs.Choices.{AreChoices}
+use Rattle.report.specs.Report.{IsReport}
+use Rattle.top_call.specs.Report.{HasGrownItself, HasPutPart, IsPutFault}
 
 -- why a file was not read, where `long` is its problem if it is too long
 abbrev pub StopsReading : List ℕ → (long : Problem) → HostState → HostState → Stop → Type 0
@@ -135,3 +141,18 @@ abbrev pub StopsChecking : Program → List FnCounts → (text : List ℕ) → C
 StopsChecking program counts text certificate (No reason) = ¬ (IsYes program counts text certificate) × IsNo program counts text certificate reason
 StopsChecking program counts text certificate OutOfMemory = Unit {0}
 StopsChecking program counts text certificate _ = ⊥
+
+-- the text is the report of a module over the placements that these counts choose
+abbrev pub IsReportOver : Program → List FnCounts → List ℕ → Type 0
+IsReportOver program counts text = (placements : List (List Placement)) × AreChoices program counts placements × IsReport program counts placements text
+
+-- why the text was not put
+abbrev pub StopsPutting : List ℕ → SinkState → SinkState → Stop → Type 0
+StopsPutting text old new (WriteFault name) = IsPutFault name.now old new × HasPutPart text old new
+StopsPutting text old new _ = ⊥
+
+-- why there is no summary of n diamonds
+abbrev pub StopsSummarising : ℕ → Stop → Type 0
+StopsSummarising n (Refused file problem) = (file.now ≡ codes "self") × (problem ≡ Grown) × HasGrownItself n
+StopsSummarising n OutOfMemory = Unit {0}
+StopsSummarising n _ = ⊥

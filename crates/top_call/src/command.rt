@@ -1,10 +1,10 @@
 //! The words after the program's name.
 ghost use Rattle.std.specs.Prelude.{◌≡◌, IfSome};
 ghost use Rattle.std.specs.Option.{option_map};
-ghost use Rattle.top_call.specs.Row.{row_of, check_row, print_row, run_row, opt_row, limit_of, profile_of, texts};
+ghost use Rattle.top_call.specs.Row.{row_of, check_row, print_row, run_row, opt_row, profile_of, report_row, self_row, texts};
 ghost use Rattle.top_call.specs.Command.{row_of_command, IsAllowed};
 
-use crate::limit::limit_of;
+use crate::limit::{limit_of, size_of};
 
 /// A command with its file names.
 #[derive(Clone, Copy, Debug, PartialEq, Eq)]
@@ -22,6 +22,10 @@ pub(crate) enum Command<'a> {
     Opt(OptNames<'a>),
     /// Checks what was written for a module and its profile.
     Check(OptNames<'a>),
+    /// Reports what the optimiser does to a module.
+    Report(ReportNames<'a>),
+    /// Optimises a made module of so many diamonds: from 1 to 10000.
+    Itself(u32),
 }
 
 /// What is asked of a run.
@@ -46,6 +50,15 @@ pub(crate) struct OptNames<'a> {
     pub(crate) output: &'a str,
     /// The file of its certificate.
     pub(crate) certificate: &'a str,
+}
+
+/// The files of `report`.
+#[derive(Clone, Copy, Debug, PartialEq, Eq)]
+pub(crate) struct ReportNames<'a> {
+    /// The file of the module.
+    pub(crate) input: &'a str,
+    /// The file of its profile.
+    pub(crate) profile: &'a str,
 }
 
 fn print_command(words: &[String]) -> Option<Command<'_>>
@@ -110,6 +123,26 @@ fn check_command(words: &[String]) -> Option<Command<'_>>
     }
 }
 
+fn report_command(words: &[String]) -> Option<Command<'_>>
+    ensures row { option_map row_of_command result ≡ report_row (texts words.now) }
+    ensures allowed { IfSome result IsAllowed }
+{
+    match words {
+        [input, profile] => Some(Command::Report(ReportNames { input, profile })),
+        _ => None,
+    }
+}
+
+fn self_command(words: &[String]) -> Option<Command<'_>>
+    ensures row { option_map row_of_command result ≡ self_row (texts words.now) }
+    ensures allowed { IfSome result IsAllowed }
+{
+    match words {
+        [number] => Some(Command::Itself(size_of(number)?)),
+        _ => None,
+    }
+}
+
 /// The command that the words fit, if any.
 pub(crate) fn command_of(words: &[String]) -> Option<Command<'_>>
     ensures row { option_map row_of_command result ≡ row_of (texts words.now) }
@@ -121,6 +154,8 @@ pub(crate) fn command_of(words: &[String]) -> Option<Command<'_>>
         "run" => run_command(words),
         "opt" => opt_command(words),
         "check" => check_command(words),
+        "report" => report_command(words),
+        "self" => self_command(words),
         _ => None,
     }
 }

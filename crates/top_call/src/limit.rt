@@ -1,8 +1,8 @@
-//! A number of steps as a word.
-ghost use Rattle.std.specs.Prelude.{◌≡◌, ◌^◌, ◌-◌, ◌<◌, min, IfSome};
+//! Numbers as words.
+ghost use Rattle.std.specs.Prelude.{◌≡◌, ◌^◌, ◌-◌, ◌<◌, ◌≤◌, min, IfSome};
 ghost use Rattle.std.specs.Char.{digit_value};
 ghost use Rattle.std.specs.Str.Parse.{digits_value};
-ghost use Rattle.top_call.specs.Row.{limit_of};
+ghost use Rattle.top_call.specs.Row.{number_below};
 
 use itoa::Buffer;
 
@@ -26,19 +26,38 @@ fn number(digits: &[u8]) -> u64
     number
 }
 
-/// The number of steps that a word gives: from 1 to 2^62 - 1, in decimal, without sign or leading zeros.
-pub(crate) fn limit_of(word: &str) -> Option<u64>
-    ensures number { result ≡ limit_of word.now }
-    ensures limits { IfSome result (λ n. n < 2 ^ 62) }
+/// The number that a word gives: from 1 on and below a bound, in decimal, without sign or leading zeros.
+fn number_below(bound: u64, word: &str) -> Option<u64>
+    requires { bound ≤ 2 ^ 62 }
+    ensures number { result ≡ number_below bound word.now }
+    ensures below { IfSome result (λ n. n < bound) }
+    ensures above { IfSome result (λ n. 1 ≤ n) }
 {
-    let limit = number(word.as_bytes());
-    if limit == 0 || limit >= 1 << 62 {
+    let number = number(word.as_bytes());
+    if number == 0 || number >= bound {
         return None;
     }
     let mut digits = Buffer::new();
-    if digits.format(limit) == word {
-        Some(limit)
+    if digits.format(number) == word {
+        Some(number)
     } else {
         None
     }
+}
+
+/// The number of steps that a word gives: from 1 to 2^62 - 1.
+pub(crate) fn limit_of(word: &str) -> Option<u64>
+    ensures number { result ≡ number_below (2 ^ 62) word.now }
+    ensures limits { IfSome result (λ n. n < 2 ^ 62) }
+{
+    number_below(1 << 62, word)
+}
+
+/// The number of diamonds that a word gives: from 1 to 10000.
+pub(crate) fn size_of(word: &str) -> Option<u32>
+    ensures number { result ≡ number_below 10001 word.now }
+    ensures limits { IfSome result (λ n. (1 ≤ n) × (n ≤ 10000)) }
+{
+    let size = number_below(10_001, word)?;
+    Some(size as u32)
 }

@@ -70,7 +70,7 @@ struct Texts {
 }
 
 /// The module optimised by the counts, whether it is too large or not, and its certificate.
-fn optimised<'a, 'p>(
+pub(crate) fn optimised<'a, 'p>(
     alloc: Global,
     file: &'a str,
     program: &Module<'p>,

@@ -4,12 +4,14 @@ ghost use Rattle.top_call.specs.Row.{row_of, texts};
 ghost use Rattle.call_lines.specs.Lines.{Answers};
 ghost use Rattle.top_call.specs.World.{world};
 ghost use Rattle.top_call.specs.Check.{AgreesWithOpt};
-ghost use Rattle.top_call.specs.Top.{MayDo, Ends, Writes, IsRefused, IsAccepted, IsTrapped, IsAtLimit, IsDone, IsPartlyDone, HasReadFault, HasWriteFault, IsQuiet, HasMoved, AreRead, IsTooLarge, IsRowDenied};
+ghost use Rattle.top_call.specs.Top.{MayDo, Ends, Writes, IsRefused, IsAccepted, IsTrapped, IsAtLimit, IsDone, IsPartlyDone, HasReadFault, HasWriteFault, IsQuiet, IsSilent, HasMoved, AreRead, IsTooLarge, IsRowDenied};
 
 use crate::check::check_file;
 use crate::command::{Command, command_of};
+use crate::itself::sum_up;
 use crate::opt::opt_file;
 use crate::print::print_file;
+use crate::reporting::report_files;
 use crate::run::run_file;
 use call_lines::{Stop, finish};
 use ir_reader::one_answer;
@@ -42,6 +44,8 @@ fn answer<H: Host, I: Source, O: Sink, E: Sink>(
         Some(Command::Run(asked)) => run_file(alloc, host, input, out, err, asked),
         Some(Command::Opt(names)) => opt_file(alloc, host, err, names),
         Some(Command::Check(names)) => check_file(alloc, host, err, names),
+        Some(Command::Report(names)) => report_files(alloc, host, out, err, names),
+        Some(Command::Itself(n)) => sum_up(alloc, out, err, n),
     }
 }
 
@@ -52,8 +56,10 @@ fn answer<H: Host, I: Source, O: Sink, E: Sink>(
 /// and `out`, and where it returns writes its profile to PROF, unless PROF is `-`. `opt IN PROF OUT CERT` optimises the
 /// module of IN by its profile PROF, and writes the new module to OUT and then its certificate to CERT; OUT and CERT
 /// differ. `check IN PROF OUT CERT` says whether OUT is the module of IN with the placements of CERT applied, and
-/// CERT shows that each of them is what it must be. The host lets the row read and write these files, and is asked for no other. Nothing is written to a file
-/// before each text stands whole. IN is read, and its problems are told, before PROF, PROF before OUT, and OUT before
+/// CERT shows that each of them is what it must be. `report IN PROF` puts on `out` what each expression of IN's module
+/// costs by its profile PROF, before it is optimised and after. `self N` makes a module of N diamonds with its profile,
+/// from 1 to 10000, optimises it in memory, and puts on `out` what that saves. The host lets the row read and write these
+/// files, and is asked for no other. Nothing is written to a file, and no report is put, before each text stands whole. IN is read, and its problems are told, before PROF, PROF before OUT, and OUT before
 /// CERT.
 ///
 /// | Status | Comes | Line on `err` |
@@ -61,19 +67,21 @@ fn answer<H: Host, I: Source, O: Sink, E: Sink>(
 /// | 0 | `print`: OUT holds the text | none |
 /// | 0 | `opt`: OUT holds the text of the optimised module, and CERT its certificate | none |
 /// | 0 | `check`: the checker says yes | none |
+/// | 0 | `report`, `self`: `out` gained the report, or the summary | none |
 /// | 0 | `run`: `main` returned V, and PROF holds the profile | `mcpre: main returned V`, with neither space nor V for `void` |
 /// | 1 | IN has more than 2^26 bytes | `mcpre: IN: E1 TooLong` |
 /// | 1 | a byte of IN starts no token | `mcpre: IN:LINE: E2 BadByte 0xNN` |
 /// | 1 | the grammar stops, or a rule is broken, at a token of IN or at its end | `mcpre: IN:LINE: CODE NAME EXCERPT` |
-/// | 1 | `opt`, `check`: PROF has more than 2^26 bytes | `mcpre: PROF: P1 TooLong` |
-/// | 1 | `opt`, `check`: a line of PROF is of no form, or isn't the module's | `mcpre: PROF:LINE: CODE NAME` |
-/// | 1 | `opt`, `check`: a reached block is out of balance | `mcpre: PROF: P4 Unbalanced function F block B in X out Y` |
-/// | 1 | `opt`, `check`: an unreached block is left | `mcpre: PROF: P5 Unreached function F block B` |
-/// | 1 | `opt`, `check`: the counts sum to 2^62 or more | `mcpre: PROF: P6 Total` |
+/// | 1 | `opt`, `check`, `report`: PROF has more than 2^26 bytes | `mcpre: PROF: P1 TooLong` |
+/// | 1 | `opt`, `check`, `report`: a line of PROF is of no form, or isn't the module's | `mcpre: PROF:LINE: CODE NAME` |
+/// | 1 | `opt`, `check`, `report`: a reached block is out of balance | `mcpre: PROF: P4 Unbalanced function F block B in X out Y` |
+/// | 1 | `opt`, `check`, `report`: an unreached block is left | `mcpre: PROF: P5 Unreached function F block B` |
+/// | 1 | `opt`, `check`, `report`: the counts sum to 2^62 or more | `mcpre: PROF: P6 Total` |
 /// | 1 | `check`: OUT has more than 2^26 bytes | `mcpre: OUT: E1 TooLong` |
 /// | 1 | `check`: CERT holds no certificate; PATH is the first wrong part | `mcpre: CERT: C1 Form PATH` |
 /// | 1 | `print`: the text has more than 2^26 bytes | `mcpre: IN: E17 Grown` |
 /// | 1 | `opt`: the new text has, or a function of the new module has more than it may, or the best placements insert at 2^28 edges of a function or more | `mcpre: IN: E17 Grown` |
+/// | 1 | `self`: the same of its new module | `mcpre: self: E17 Grown` |
 /// | 1 | `run`: there is no defined `main` without parameters | `mcpre: IN: E18 NoMain` |
 /// | 2 | the words fit no row | `mcpre: usage` |
 /// | 3 | the host's count of reads that failed rose, or that of `input` | `mcpre: read fault: IN`, PROF, OUT, CERT, or `standard input` |
@@ -142,9 +150,9 @@ pub fn mcpre<H: Host, I: Source, O: Sink, E: Sink>(
     // No other file changes.
     ensures files { (name : List ℕ) → ¬ (Writes (row_of (texts words.now)) name) → (H.state host.new).file name ≡ (H.state host.old).file name }
 
-    // What is taken and put: nothing where the row is quiet, else what the run so far takes and puts.
+    // What is taken and put: nothing where the row is quiet, or silent, else what the run so far takes and puts, or a first part of the report.
     ensures input { IsQuiet (row_of (texts words.now)) (world (H.state host.old) (I.state input.old) (O.state out.old)) (world (H.state host.new) (I.state input.new) (O.state out.new)) result → I.state input.new ≡ I.state input.old }
-    ensures out { IsQuiet (row_of (texts words.now)) (world (H.state host.old) (I.state input.old) (O.state out.old)) (world (H.state host.new) (I.state input.new) (O.state out.new)) result → O.state out.new ≡ O.state out.old }
+    ensures out { IsSilent (row_of (texts words.now)) (world (H.state host.old) (I.state input.old) (O.state out.old)) (world (H.state host.new) (I.state input.new) (O.state out.new)) result → O.state out.new ≡ O.state out.old }
     ensures moved { IsTrue (H.state host.old).tells → HasMoved (row_of (texts words.now)) (world (H.state host.old) (I.state input.old) (O.state out.old)) (world (H.state host.new) (I.state input.new) (O.state out.new)) }
 {
     one_answer();

@@ -1,5 +1,5 @@
 use Rattle.top_call.specs.Row.{row_of, texts}
-use Rattle.top_call.proofs.Rows.{not_done, complete, denied, deny, grown, traps, ends_nothing, still, trapped, limited, done, moved, partly, usage}
+use Rattle.top_call.proofs.Rows.{not_done, complete, denied, deny, grown, traps, ends_nothing, untaken, silent, trapped, limited, done, moved, partly, usage}
 use Rattle.top_call.proofs.top.mcpre.Goals as goal
 
 pub returns-clause-not_done : goal.returns-clause-not_done
@@ -30,10 +30,10 @@ pub returns-clause-partly : goal.returns-clause-partly
 returns-clause-partly g c = λ tells status. let e = c.answer.ensures.ends in partly _ _ (row_of (texts c.args.words.now)) e.ending e.ends _ e.status_is tells status
 
 pub returns-clause-input : goal.returns-clause-input
-returns-clause-input g c = λ quiet. let e = c.answer.ensures.ends in (still c.one_answer.ensures _ _ e.ending (row_of (texts c.args.words.now)) e.ends _ e.status_is quiet).input
+returns-clause-input g c = λ quiet. let e = c.answer.ensures.ends in untaken c.one_answer.ensures _ _ e.ending (row_of (texts c.args.words.now)) e.ends _ e.status_is quiet
 
 pub returns-clause-out : goal.returns-clause-out
-returns-clause-out g c = λ quiet. let e = c.answer.ensures.ends in (still c.one_answer.ensures _ _ e.ending (row_of (texts c.args.words.now)) e.ends _ e.status_is quiet).out
+returns-clause-out g c = λ quiet. let e = c.answer.ensures.ends in silent c.one_answer.ensures _ _ e.ending (row_of (texts c.args.words.now)) e.ends _ e.status_is quiet
 
 pub returns-clause-denied : goal.returns-clause-denied
 returns-clause-denied g c = λ tells six. let e = c.answer.ensures.ends in denied _ _ (row_of (texts c.args.words.now)) e.ending e.ends _ e.status_is tells six
@@ -45,4 +45,4 @@ pub returns-clause-usage : goal.returns-clause-usage
 returns-clause-usage g c = let e = c.answer.ensures.ends in usage _ _ (row_of (texts c.args.words.now)) e.ending e.ends _ e.status_is
 
 pub returns-clause-moved : goal.returns-clause-moved
-returns-clause-moved g c = λ tells. let e = c.answer.ensures.ends in moved c.one_answer.ensures _ _ e.ending (row_of (texts c.args.words.now)) e.ends tells
+returns-clause-moved g c = λ tells. let e = c.answer.ensures.ends in moved c.one_answer.ensures _ _ e.ending c.one_answer-3.ensures (row_of (texts c.args.words.now)) e.ends tells
