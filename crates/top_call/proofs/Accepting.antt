@@ -12,23 +12,33 @@ use Rattle.call_lines.specs.declared.ending.Problem.TheVariants.{TooLong, Text, 
 use Rattle.call_lines.specs.declared.ending.Stop.{Stop}
 use Rattle.call_lines.specs.declared.ending.Stop.TheVariants.{Usage, Refused, ReadFault, WriteFault, OutOfMemory, No, Trapped, StepLimit}
 use Rattle.top_call.specs.Print.{ReadsAs, HasProblem, text_limit}
-use Rattle.top_call.specs.Accepted.{AreUnaccepted, HasCounts, HasReadProblem, KeepsRead, unread_file}
+use Rattle.top_call.specs.Accepted.{AreUnaccepted, HasCounts, HasReadProblem, IsOfReading, KeepsRead, unread_file}
 use Rattle.top_call.specs.Stops.{StopsReading, StopsParsing, StopsCounting}
-use Rattle.top_call.proofs.OptLemmas.{reads_twice}
+use Rattle.top_call.proofs.ReadLemmas.{reads_twice, still_tells}
 
-still_tells : (a b : HostState) → OnlyReads a b → IsTrue a.tells → IsTrue b.tells
-still_tells a b reads tells = reads.rights.tells ∙ tells
+-- what a host that only read since holds was held before
+held_before : (name : List ℕ) (before mid : HostState) → OnlyReads before mid → (content : List ℕ) → (IsTrue mid.tells → mid.file name ≡ Some content) → IsTrue before.tells
+    → before.file name ≡ Some content
+held_before name before mid read content there tells =
+    sym (ap (λ (file : List ℕ → Option (List ℕ)). file name) read.files) ∙ there (still_tells before mid read tells)
+
+-- the file of the profile has the counts that its bytes say
+pub profile_read : (counted_by : List ℕ) (before mid : HostState) → OnlyReads before mid → (program : Program) (content : List ℕ)
+    → (IsTrue mid.tells → mid.file counted_by ≡ Some content) → length content ≤ text_limit → (counts : List FnCounts) → profile.Reads program content counts
+    → IsTrue before.tells → HasCounts before counted_by program counts
+profile_read counted_by before mid read program content there few counts says tells =
+    record { content = content; holds = held_before counted_by before mid read content there tells; short = few; reads = says }
 
 module _ (input counted_by : List ℕ) where
   abbrev IsRefusedSo : (file : List ℕ) → HostState → HostState → Problem → Type 0
   IsRefusedSo file old new p =
-      (file ≡ unread_file input counted_by p) × (new.file ≡ old.file)
+      IsOfReading p × (file ≡ unread_file input counted_by p) × (new.file ≡ old.file)
       × (IsTrue old.tells → HasReadProblem input counted_by old p × KeepsRead input old p)
 
   -- the module's file was not read
   pub module_unread : (old new : HostState) (stop : Stop) → StopsReading input TooLong old new stop → OnlyReads old new → AreUnaccepted input counted_by old new stop
   module_unread old new (Refused file problem) stops reads =
-      let long : IsRefusedSo file.now old new TooLong = (stops.0, reads.files, λ tells. (stops.2 tells, tt)) in
+      let long : IsRefusedSo file.now old new TooLong = (tt, stops.0, reads.files, λ tells. (stops.2 tells, tt)) in
       subst (IsRefusedSo file.now old new) (sym stops.1) long
   module_unread old new (ReadFault name) stops reads = (reads.files, stops.1, inl stops.0)
   module_unread old new OutOfMemory stops reads = reads.files
@@ -44,7 +54,7 @@ module _ (input counted_by : List ℕ) where
     pub module_unparsed : (stop : Stop) → StopsParsing input bytes stop → AreUnaccepted input counted_by before mid stop
     module_unparsed (Refused file TooLong) stops = absurd stops.1
     module_unparsed (Refused file (Text refusal excerpt)) stops =
-        (stops.0, read.files, λ tells. ((bytes, holds tells, short, stops.1.0, stops.1.1), tt))
+        (tt, stops.0, read.files, λ tells. ((bytes, holds tells, short, stops.1.0, stops.1.1), tt))
     module_unparsed (Refused file Grown) stops = absurd stops.1
     module_unparsed (Refused file NoMain) stops = absurd stops.1
     module_unparsed (Refused file LongOutput) stops = absurd stops.1
@@ -72,7 +82,7 @@ module _ (input counted_by : List ℕ) where
           let content : (tells : IsTrue before.tells) → HasProblem before counted_by TooLong =
           λ tells. let long = stops.2 (still_tells before mid read tells) in
           (long.0, sym (ap (λ (file : List ℕ → Option (List ℕ)). file counted_by) read.files) ∙ long.1, long.2) in
-          let long : IsRefusedSo file.now before late LongProfile = (stops.0, both.files, λ tells. ((program, module_read tells, content tells), tt)) in
+          let long : IsRefusedSo file.now before late LongProfile = (tt, stops.0, both.files, λ tells. ((program, module_read tells, content tells), tt)) in
           subst (IsRefusedSo file.now before late) (sym stops.1) long
       profile_unread (ReadFault name) stops =
           (both.files, rose_after before.read_faults mid.read_faults late.read_faults read.read_faults stops.1 again.read_faults, inr (stops.0, λ tells. (program, module_read tells)))
@@ -85,11 +95,12 @@ module _ (input counted_by : List ℕ) where
 
       module _ (content : List ℕ) (there : IsTrue mid.tells → mid.file counted_by ≡ Some content) (few : length content ≤ text_limit) where
         there_before : IsTrue before.tells → before.file counted_by ≡ Some content
-        there_before tells = sym (ap (λ (file : List ℕ → Option (List ℕ)). file counted_by) read.files) ∙ there (still_tells before mid read tells)
+        there_before tells = held_before counted_by before mid read content there tells
 
         -- its bytes gave no counts
         pub profile_unsaid : IsWellFormed program → (stop : Stop) → StopsCounting counted_by content program stop → AreUnaccepted input counted_by before late stop
         profile_unsaid rules (Refused file (BadProfile problem)) stops = (
+          tt,
           stops.0,
           both.files,
           λ tells. (
@@ -111,6 +122,3 @@ module _ (input counted_by : List ℕ) where
         profile_unsaid rules (WriteFault name) stops = absurd stops
         profile_unsaid rules (Trapped trap) stops = absurd stops
         profile_unsaid rules (StepLimit steps) stops = absurd stops
-
-        pub profile_read : (counts : List FnCounts) → profile.Reads program content counts → IsTrue before.tells → HasCounts before counted_by program counts
-        profile_read counts says tells = record { content = content; holds = there_before tells; short = few; reads = says }

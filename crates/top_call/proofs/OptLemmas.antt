@@ -2,7 +2,6 @@
 use Rattle.std.proofs.Common.{◌≡◌, ◌≤◌, ◌⊎◌, ℕ, List, length, Option, Some, Ok, Err, IsTrue, inl, inr, refl, sym, ap, subst, ◌∙◌, arith}
 use Rattle.mc_host.specs.Faults.{Rose}
 use Rattle.mc_host.specs.Host.{HostState, OnlyReads, IsBeforeOrPart}
-use Rattle.mc_host.proofs.PutsLemmas.{rose_after}
 use Rattle.std.specs.Prelude.{All}
 use Rattle.ir_types.specs.Limits.{IsWithinLimits}
 use Rattle.ir_types.specs.Program.{Program}
@@ -10,14 +9,13 @@ use Rattle.ir_types.specs.WellFormed.{IsWellFormed}
 use Rattle.ir_types.specs.Same.{plain}
 use Rattle.ir_machine.specs.Same.{Same}
 use Rattle.ir_printer.specs.Text.{text_of}
-use Rattle.ir_reader.specs.Reading.{Reads, ReadsBack}
+use Rattle.ir_reader.specs.Reading.{ReadsBack}
 use Rattle.certificate.specs.declared.types.Certificate.{Certificate}
 use Rattle.certificate.specs.Holds.{Holds}
 use Rattle.certificate.specs.Text.{json}
 use Rattle.certified.specs.Certified.{AreAllBest, IsCertified}
 use Rattle.optimise.specs.Optimised.{HasTooMany, IsOptimised, IsOptimisedBy}
 use Rattle.profile.specs.Counts.{IsAccepted}
-use Rattle.profile.specs.Reading as profile
 use Rattle.profile.specs.declared.counts.FnCounts.{FnCounts}
 use Rattle.call_lines.specs.declared.ending.Problem.{Problem}
 use Rattle.call_lines.specs.declared.ending.Problem.TheVariants.{TooLong, Text, Grown, NoMain, LongProfile, BadProfile, LongOutput, BadCertificate}
@@ -25,25 +23,12 @@ use Rattle.call_lines.specs.declared.ending.Done.TheVariants.{Written, Checked}
 use Rattle.call_lines.specs.declared.ending.Stop.{Stop}
 use Rattle.call_lines.specs.declared.ending.Stop.TheVariants.{Usage, Refused, ReadFault, WriteFault, OutOfMemory, No, Trapped, StepLimit}
 use Rattle.top_call.specs.Row.{OptFiles}
-use Rattle.top_call.specs.Print.{ReadsAs, HasProblem, text_limit}
+use Rattle.top_call.specs.Print.{ReadsAs, text_limit}
+use Rattle.top_call.specs.Accepted.{AreUnaccepted, HasCounts}
 use Rattle.top_call.specs.Opt.{OptEnds, AreAccepted, HasGrown, HasOptProblem, IsGrown, KeepsRules, IsOutput, LeavesParts, IsOutputFault, IsCertificateFault, refused_file}
-use Rattle.top_call.specs.Stops.{StopsReading, StopsParsing, StopsCounting, StopsOptimising, StopsWritingBoth, AreOptimisedTexts}
-
--- what only reads twice only reads
-pub reads_twice : (a b c : HostState) → OnlyReads a b → OnlyReads b c → OnlyReads a c
-reads_twice a b c first second = record {
-  rights = record {
-    may_read = second.rights.may_read ∙ first.rights.may_read;
-    may_write = second.rights.may_write ∙ first.rights.may_write;
-    tells = second.rights.tells ∙ first.rights.tells;
-  };
-  files = second.files ∙ first.files;
-  read_faults = omega (arith, first.read_faults, second.read_faults);
-  write_faults = second.write_faults ∙ first.write_faults;
-}
-
-told : (a b : HostState) → OnlyReads a b → IsTrue a.tells → IsTrue b.tells
-told a b reads tells = reads.rights.tells ∙ tells
+use Rattle.top_call.specs.Stops.{StopsReading, StopsOptimising, StopsWritingBoth, AreOptimisedTexts}
+use Rattle.top_call.proofs.Accepting.{module_unread}
+use Rattle.top_call.proofs.ReadLemmas.{still_tells}
 
 -- the texts of an optimised module that isn't too large, and of its certificate
 pub texts_made : (m : Program) (counts : List FnCounts) (certificate : Certificate) (m' : Program) (text certificate_text : List ℕ) → IsOptimisedBy m counts certificate m' → IsAccepted m counts
@@ -67,190 +52,120 @@ texts_made m counts certificate m' text certificate_text is accepted best holds 
 pub made_large : (m : Program) (counts : List FnCounts) (certificate : Certificate) (m' : Program) → IsOptimisedBy m counts certificate m' → IsGrown m' → (program' : Program) × IsOptimised m counts program' × IsGrown program'
 made_large m counts certificate m' is grown = (m', record { placed = is.placed; are_chosen = is.are_chosen; transformed = is.transformed }, grown)
 
+-- why the files were not accepted is how `opt` ends
+pub unaccepted : (files : OptFiles) (old new : HostState) (stop : Stop) → AreUnaccepted files.input files.profile old new stop → OptEnds files old new (Err stop)
+unaccepted files old new (Refused file TooLong) stops = (stops.1, stops.2, stops.3)
+unaccepted files old new (Refused file (Text refusal excerpt)) stops = (stops.1, stops.2, stops.3)
+unaccepted files old new (Refused file LongProfile) stops = (stops.1, stops.2, stops.3)
+unaccepted files old new (Refused file (BadProfile problem)) stops = (stops.1, stops.2, stops.3)
+unaccepted files old new (Refused file Grown) stops = absurd stops.0
+unaccepted files old new (Refused file NoMain) stops = absurd stops.0
+unaccepted files old new (Refused file LongOutput) stops = absurd stops.0
+unaccepted files old new (Refused file (BadCertificate path)) stops = absurd stops.0
+unaccepted files old new (ReadFault name) stops = stops
+unaccepted files old new OutOfMemory stops = λ tells. inl stops
+unaccepted files old new Usage stops = absurd stops
+unaccepted files old new (No reason) stops = absurd stops
+unaccepted files old new (WriteFault name) stops = absurd stops
+unaccepted files old new (Trapped trap) stops = absurd stops
+unaccepted files old new (StepLimit steps) stops = absurd stops
+
 -- the module's file was not read
 pub read_stopped : (files : OptFiles) (old new : HostState) (stop : Stop) → StopsReading files.input TooLong old new stop → OnlyReads old new
     → OptEnds files old new (Err stop)
-read_stopped files old new (Refused file problem) stops reads =
-    let P : Problem → Type 0 = λ p. (file.now ≡ refused_file files p) × (new.file ≡ old.file) × (IsTrue old.tells → HasOptProblem files old p × KeepsRules files old p) in
-    let long : P TooLong = (stops.0, reads.files, λ tells. (stops.2 tells, tt)) in
-    subst P (sym stops.1) long
-read_stopped files old new (ReadFault name) stops reads = (reads.files, stops.1, inl stops.0)
-read_stopped files old new OutOfMemory stops reads = λ tells. inl reads.files
-read_stopped files old new Usage stops reads = absurd stops
-read_stopped files old new (No reason) stops reads = absurd stops
-read_stopped files old new (WriteFault name) stops reads = absurd stops
-read_stopped files old new (Trapped trap) stops reads = absurd stops
-read_stopped files old new (StepLimit steps) stops reads = absurd stops
+read_stopped files old new stop stops only = unaccepted files old new stop (module_unread files.input files.profile old new stop stops only)
 
-module _ (files : OptFiles) (before mid : HostState) (bytes : List ℕ)
-    (read : OnlyReads before mid) (holds : IsTrue before.tells → before.file files.input ≡ Some bytes) (short : length bytes ≤ text_limit) where
-  -- its text was not read as a program
-  pub parse_stopped : (stop : Stop) → StopsParsing files.input bytes stop → OptEnds files before mid (Err stop)
-  parse_stopped (Refused file TooLong) stops = absurd stops.1
-  parse_stopped (Refused file (Text refusal excerpt)) stops =
-      (stops.0, read.files, λ tells. ((bytes, holds tells, short, stops.1.0, stops.1.1), tt))
-  parse_stopped (Refused file Grown) stops = absurd stops.1
-  parse_stopped (Refused file NoMain) stops = absurd stops.1
-  parse_stopped (Refused file LongOutput) stops = absurd stops.1
-  parse_stopped (Refused file (BadCertificate path)) stops = absurd stops.1
-  parse_stopped (Refused file LongProfile) stops = absurd stops.1
-  parse_stopped (Refused file (BadProfile problem)) stops = absurd stops.1
-  parse_stopped OutOfMemory stops = λ tells. inl read.files
-  parse_stopped Usage stops = absurd stops
-  parse_stopped (No reason) stops = absurd stops
-  parse_stopped (ReadFault name) stops = absurd stops
-  parse_stopped (WriteFault name) stops = absurd stops
-  parse_stopped (Trapped trap) stops = absurd stops
-  parse_stopped (StepLimit steps) stops = absurd stops
+module _ (files : OptFiles) (before late : HostState) (both : OnlyReads before late) (program : Program) (rules : IsWellFormed program) (counts : List FnCounts)
+    (reads : IsTrue before.tells → ReadsAs before files.input program) (says : IsTrue before.tells → HasCounts before files.profile program counts) where
+  abbrev accepted : IsTrue before.tells → AreAccepted files before program
+  accepted tells = record { reads = reads tells; counts = counts; profile = says tells }
 
-  module _ (program : Program) (reads : Reads bytes program) (rules : IsWellFormed program) (late : HostState) (again : OnlyReads mid late) where
-    abbrev as_read : IsTrue before.tells → ReadsAs before files.input program
-    as_read tells = record { content = bytes; holds = holds tells; short = short; reads = reads }
+  has_grown : IsTrue before.tells → ((program' : Program) × IsOptimised program counts program' × IsGrown program') ⊎ HasTooMany program counts → HasGrown files before
+  has_grown tells (inl large) = inl (large.0, record { program = program; accepted = accepted tells; optimised = large.1 }, large.2)
+  has_grown tells (inr many) = inr (record { program = program; accepted = accepted tells; many = many })
 
-    both : OnlyReads before late
-    both = reads_twice before mid late read again
+  -- there is no text of the optimised module
+  pub optimise_stopped : (stop : Stop) → StopsOptimising files.input program counts stop → OptEnds files before late (Err stop)
+  optimise_stopped (Refused file problem) stops =
+      let P : Problem → Type 0 = λ p. (file.now ≡ refused_file files p) × (late.file ≡ before.file) × (IsTrue before.tells → HasOptProblem files before p × KeepsRules files before p) in
+      let grown : P Grown = (stops.0, both.files, λ tells. (has_grown tells stops.2, (program, reads tells, rules))) in
+      subst P (sym stops.1) grown
+  optimise_stopped OutOfMemory stops = λ tells. inl both.files
+  optimise_stopped Usage stops = absurd stops
+  optimise_stopped (No reason) stops = absurd stops
+  optimise_stopped (ReadFault name) stops = absurd stops
+  optimise_stopped (WriteFault name) stops = absurd stops
+  optimise_stopped (Trapped trap) stops = absurd stops
+  optimise_stopped (StepLimit steps) stops = absurd stops
 
-    -- the file of the profile was not read
-    pub profile_stopped : (stop : Stop) → StopsReading files.profile LongProfile mid late stop → OptEnds files before late (Err stop)
-    profile_stopped (Refused file problem) stops =
-        let P : Problem → Type 0 = λ p. (file.now ≡ refused_file files p) × (late.file ≡ before.file) × (IsTrue before.tells → HasOptProblem files before p × KeepsRules files before p) in
-        let content : (tells : IsTrue before.tells) → HasProblem before files.profile TooLong =
-        λ tells. let long = stops.2 (told before mid read tells) in
-        (long.0, sym (ap (λ (file : List ℕ → Option (List ℕ)). file files.profile) read.files) ∙ long.1, long.2) in
-        let long : P LongProfile = (stops.0, both.files, λ tells. ((program, as_read tells, content tells), tt)) in
-        subst P (sym stops.1) long
-    profile_stopped (ReadFault name) stops =
-        (both.files, rose_after before.read_faults mid.read_faults late.read_faults read.read_faults stops.1 again.read_faults, inr (stops.0, λ tells. (program, as_read tells)))
-    profile_stopped OutOfMemory stops = λ tells. inl both.files
-    profile_stopped Usage stops = absurd stops
-    profile_stopped (No reason) stops = absurd stops
-    profile_stopped (WriteFault name) stops = absurd stops
-    profile_stopped (Trapped trap) stops = absurd stops
-    profile_stopped (StepLimit steps) stops = absurd stops
+  module _ (text certificate_text : List ℕ) (made : AreOptimisedTexts program counts text certificate_text) (new : HostState) where
+    abbrev output : IsTrue before.tells → IsOutput files before made.program'
+    output tells = record {
+      optimises = record { program = program; accepted = accepted tells; optimised = made.optimised };
+      certificate = made.certificate;
+      shown = made.shown;
+      rules = rules;
+      same = made.optimised.transformed.same;
+      fit = made.fit;
+      again = made.again;
+    }
 
-    module _ (content : List ℕ) (there : IsTrue mid.tells → mid.file files.profile ≡ Some content) (few : length content ≤ text_limit) where
-      there_before : IsTrue before.tells → before.file files.profile ≡ Some content
-      there_before tells = sym (ap (λ (file : List ℕ → Option (List ℕ)). file files.profile) read.files) ∙ there (told before mid read tells)
+    same_file : (name : List ℕ) → late.file name ≡ before.file name
+    same_file name = ap (λ (file : List ℕ → Option (List ℕ)). file name) both.files
 
-      -- its bytes gave no counts
-      pub count_stopped : (stop : Stop) → StopsCounting files.profile content program stop → OptEnds files before late (Err stop)
-      count_stopped (Refused file (BadProfile problem)) stops = (
-        stops.0,
-        both.files,
-        λ tells. (
-          (program, as_read tells, record { content = content; holds = there_before tells; short = few; bad = stops.1 }),
-          (program, as_read tells, rules),
-        ),
-      )
-      count_stopped (Refused file TooLong) stops = absurd stops
-      count_stopped (Refused file (Text refusal excerpt)) stops = absurd stops
-      count_stopped (Refused file Grown) stops = absurd stops
-      count_stopped (Refused file NoMain) stops = absurd stops
-      count_stopped (Refused file LongOutput) stops = absurd stops
-      count_stopped (Refused file (BadCertificate path)) stops = absurd stops
-      count_stopped (Refused file LongProfile) stops = absurd stops
-      count_stopped OutOfMemory stops = λ tells. inl both.files
-      count_stopped Usage stops = absurd stops
-      count_stopped (No reason) stops = absurd stops
-      count_stopped (ReadFault name) stops = absurd stops
-      count_stopped (WriteFault name) stops = absurd stops
-      count_stopped (Trapped trap) stops = absurd stops
-      count_stopped (StepLimit steps) stops = absurd stops
+    part_left : (name bytes : List ℕ) → IsBeforeOrPart name bytes late new → IsBeforeOrPart name bytes before new
+    part_left name bytes (inl same) = inl (same ∙ same_file name)
+    part_left name bytes (inr part) = inr part
 
-      module _ (counts : List FnCounts) (says : profile.Reads program content counts) where
-        abbrev accepted : IsTrue before.tells → AreAccepted files before program
-        accepted tells = record {
-          reads = as_read tells;
-          counts = counts;
-          profile = record { content = content; holds = there_before tells; short = few; reads = says };
-        }
+    parts_left : LeavesParts files text certificate_text late new → LeavesParts files text certificate_text before new
+    parts_left (inl left) = inl (part_left files.output text left.0, left.1 ∙ same_file files.certificate)
+    parts_left (inr left) = inr (left.0, part_left files.certificate certificate_text left.1)
 
-        has_grown : IsTrue before.tells → ((program' : Program) × IsOptimised program counts program' × IsGrown program') ⊎ HasTooMany program counts → HasGrown files before
-        has_grown tells (inl large) = inl (large.0, record { program = program; accepted = accepted tells; optimised = large.1 }, large.2)
-        has_grown tells (inr many) = inr (record { program = program; accepted = accepted tells; many = many })
+    fault_left : (name : List ℕ) → Rose late.write_faults new.write_faults → Rose before.write_faults new.write_faults
+    fault_left name rose = let P : ℕ → Type 0 = λ n. Rose n new.write_faults in subst P both.write_faults rose
 
-        -- there is no text of the optimised module
-        pub optimise_stopped : (stop : Stop) → StopsOptimising files.input program counts stop → OptEnds files before late (Err stop)
-        optimise_stopped (Refused file problem) stops =
-            let P : Problem → Type 0 = λ p. (file.now ≡ refused_file files p) × (late.file ≡ before.file) × (IsTrue before.tells → HasOptProblem files before p × KeepsRules files before p) in
-            let grown : P Grown = (stops.0, both.files, λ tells. (has_grown tells stops.2, (program, as_read tells, rules))) in
-            subst P (sym stops.1) grown
-        optimise_stopped OutOfMemory stops = λ tells. inl both.files
-        optimise_stopped Usage stops = absurd stops
-        optimise_stopped (No reason) stops = absurd stops
-        optimise_stopped (ReadFault name) stops = absurd stops
-        optimise_stopped (WriteFault name) stops = absurd stops
-        optimise_stopped (Trapped trap) stops = absurd stops
-        optimise_stopped (StepLimit steps) stops = absurd stops
+    told_fault : (name : List ℕ)
+        → ((name ≡ files.output) × (new.file files.certificate ≡ late.file files.certificate) × (IsTrue late.tells → IsBeforeOrPart files.output text late new))
+        ⊎ ((name ≡ files.certificate) × (IsTrue late.tells → (new.file files.output ≡ Some text) × IsBeforeOrPart files.certificate certificate_text late new))
+        → IsOutputFault files before new name ⊎ IsCertificateFault files before new name
+    told_fault name (inl fault) =
+        let P : List ℕ → Type 0 = λ text. IsBeforeOrPart files.output text before new in
+        inl (
+          fault.0,
+          fault.1 ∙ same_file files.certificate,
+          λ tells.
+              (made.program', output tells, subst P made.is_text (part_left files.output text (fault.2 (still_tells before late both tells)))),
+        )
+    told_fault name (inr fault) =
+        let P : List ℕ → Type 0 = λ text. new.file files.output ≡ Some text in
+        let Q : List ℕ → Type 0 = λ text. IsBeforeOrPart files.certificate text before new in
+        inr (
+          fault.0,
+          λ tells.
+              let left = fault.1 (still_tells before late both tells) in
+              (made.program', output tells, subst P made.is_text left.0, subst Q made.is_json (part_left files.certificate certificate_text left.1)),
+        )
 
-        module _ (text certificate_text : List ℕ) (made : AreOptimisedTexts program counts text certificate_text) (new : HostState) where
-          abbrev output : IsTrue before.tells → IsOutput files before made.program'
-          output tells = record {
-            optimises = record { program = program; accepted = accepted tells; optimised = made.optimised };
-            certificate = made.certificate;
-            shown = made.shown;
-            rules = rules;
-            same = made.optimised.transformed.same;
-            fit = made.fit;
-            again = made.again;
-          }
+    -- the files were not both written
+    pub write_stopped : (stop : Stop) → StopsWritingBoth files text certificate_text late new stop → OptEnds files before new (Err stop)
+    write_stopped (WriteFault name) stops = (fault_left name.now stops.0, told_fault name.now stops.1)
+    write_stopped OutOfMemory stops = λ tells.
+        let P : List ℕ → Type 0 = λ text. LeavesParts files text certificate_text before new in
+        let Q : List ℕ → Type 0 = λ json. LeavesParts files (text_of made.program') json before new in
+        inr (made.program', output tells, subst Q made.is_json (subst P made.is_text (parts_left (stops (still_tells before late both tells)))))
+    write_stopped Usage stops = absurd stops
+    write_stopped (No reason) stops = absurd stops
+    write_stopped (Refused file problem) stops = absurd stops
+    write_stopped (ReadFault name) stops = absurd stops
+    write_stopped (Trapped trap) stops = absurd stops
+    write_stopped (StepLimit steps) stops = absurd stops
 
-          same_file : (name : List ℕ) → late.file name ≡ before.file name
-          same_file name = ap (λ (file : List ℕ → Option (List ℕ)). file name) both.files
-
-          part_left : (name bytes : List ℕ) → IsBeforeOrPart name bytes late new → IsBeforeOrPart name bytes before new
-          part_left name bytes (inl same) = inl (same ∙ same_file name)
-          part_left name bytes (inr part) = inr part
-
-          parts_left : LeavesParts files text certificate_text late new → LeavesParts files text certificate_text before new
-          parts_left (inl left) = inl (part_left files.output text left.0, left.1 ∙ same_file files.certificate)
-          parts_left (inr left) = inr (left.0, part_left files.certificate certificate_text left.1)
-
-          fault_left : (name : List ℕ) → Rose late.write_faults new.write_faults → Rose before.write_faults new.write_faults
-          fault_left name rose = let P : ℕ → Type 0 = λ n. Rose n new.write_faults in subst P both.write_faults rose
-
-          told_fault : (name : List ℕ)
-              → ((name ≡ files.output) × (new.file files.certificate ≡ late.file files.certificate) × (IsTrue late.tells → IsBeforeOrPart files.output text late new))
-              ⊎ ((name ≡ files.certificate) × (IsTrue late.tells → (new.file files.output ≡ Some text) × IsBeforeOrPart files.certificate certificate_text late new))
-              → IsOutputFault files before new name ⊎ IsCertificateFault files before new name
-          told_fault name (inl fault) =
-              let P : List ℕ → Type 0 = λ text. IsBeforeOrPart files.output text before new in
-              inl (
-                fault.0,
-                fault.1 ∙ same_file files.certificate,
-                λ tells.
-                    (made.program', output tells, subst P made.is_text (part_left files.output text (fault.2 (told before late both tells)))),
-              )
-          told_fault name (inr fault) =
-              let P : List ℕ → Type 0 = λ text. new.file files.output ≡ Some text in
-              let Q : List ℕ → Type 0 = λ text. IsBeforeOrPart files.certificate text before new in
-              inr (
-                fault.0,
-                λ tells.
-                    let left = fault.1 (told before late both tells) in
-                    (made.program', output tells, subst P made.is_text left.0, subst Q made.is_json (part_left files.certificate certificate_text left.1)),
-              )
-
-          -- the files were not both written
-          pub write_stopped : (stop : Stop) → StopsWritingBoth files text certificate_text late new stop → OptEnds files before new (Err stop)
-          write_stopped (WriteFault name) stops = (fault_left name.now stops.0, told_fault name.now stops.1)
-          write_stopped OutOfMemory stops = λ tells.
-              let P : List ℕ → Type 0 = λ text. LeavesParts files text certificate_text before new in
-              let Q : List ℕ → Type 0 = λ json. LeavesParts files (text_of made.program') json before new in
-              inr (made.program', output tells, subst Q made.is_json (subst P made.is_text (parts_left (stops (told before late both tells)))))
-          write_stopped Usage stops = absurd stops
-          write_stopped (No reason) stops = absurd stops
-          write_stopped (Refused file problem) stops = absurd stops
-          write_stopped (ReadFault name) stops = absurd stops
-          write_stopped (Trapped trap) stops = absurd stops
-          write_stopped (StepLimit steps) stops = absurd stops
-
-          -- all is done
-          pub done : (IsTrue late.tells → new.file files.output ≡ Some text) → (IsTrue late.tells → new.file files.certificate ≡ Some certificate_text)
-              → OptEnds files before new (Ok Written)
-          done out cert = λ tells. record {
-            program' = made.program';
-            is_output = output tells;
-            output = out (told before late both tells) ∙ ap (λ (text : List ℕ). Some text) made.is_text;
-            certificate = cert (told before late both tells) ∙ ap (λ (text : List ℕ). Some text) made.is_json;
-          }
+    -- all is done
+    pub done : (IsTrue late.tells → new.file files.output ≡ Some text) → (IsTrue late.tells → new.file files.certificate ≡ Some certificate_text)
+        → OptEnds files before new (Ok Written)
+    done out cert = λ tells. record {
+      program' = made.program';
+      is_output = output tells;
+      output = out (still_tells before late both tells) ∙ ap (λ (text : List ℕ). Some text) made.is_text;
+      certificate = cert (still_tells before late both tells) ∙ ap (λ (text : List ℕ). Some text) made.is_json;
+    }

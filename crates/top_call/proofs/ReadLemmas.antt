@@ -1,7 +1,7 @@
 -- What the first bytes of a file say of it.
 use Rattle.std.proofs.Common.{◌≡◌, ℕ, ◌+◌, ◌<◌, ◌≤◌, min, List, take, length, Some, IsTrue, sym, ◌∙◌, ap, arith}
 use Rattle.std.proofs.lemmas.List.{length-take, take_all}
-use Rattle.mc_host.specs.Host.{HostState, GivesFile}
+use Rattle.mc_host.specs.Host.{HostState, GivesFile, OnlyReads}
 use Rattle.call_lines.specs.declared.ending.Problem.TheVariants.{TooLong}
 use Rattle.top_call.specs.Print.{HasProblem, text_limit}
 
@@ -23,3 +23,19 @@ whole host name bytes limit gives short tells =
     ap (λ xs. length xs) (gives tells).2 ∙ length-take (limit + 1) content in
     let all : take (limit + 1) content ≡ content = take_all (limit + 1) content (omega (arith, cut, short)) in
     (gives tells).1 ∙ ap (λ xs. Some xs) (sym ((gives tells).2 ∙ all))
+
+-- what only reads twice only reads
+pub reads_twice : (a b c : HostState) → OnlyReads a b → OnlyReads b c → OnlyReads a c
+reads_twice a b c first second = record {
+  rights = record {
+    may_read = second.rights.may_read ∙ first.rights.may_read;
+    may_write = second.rights.may_write ∙ first.rights.may_write;
+    tells = second.rights.tells ∙ first.rights.tells;
+  };
+  files = second.files ∙ first.files;
+  read_faults = omega (arith, first.read_faults, second.read_faults);
+  write_faults = second.write_faults ∙ first.write_faults;
+}
+
+pub still_tells : (a b : HostState) → OnlyReads a b → IsTrue a.tells → IsTrue b.tells
+still_tells a b reads tells = reads.rights.tells ∙ tells

@@ -121,7 +121,7 @@ module _ (one : (bytes : List ℕ) → HasOneAnswer bytes) (one_profile : (m : P
         → (status_of ending ≡ 0) ⊎ (status_of ending ≡ 5)
     report_complete (Ok done) ends tells program accepted reads writes = inl refl
     report_complete (Err (Refused file told)) ends tells program accepted reads writes =
-        absurd (let has = ends.0.2 tells in accepted_without_problem program accepted told has.0 has.1)
+        absurd (let has = ends.0.3 tells in accepted_without_problem program accepted told has.0 has.1)
     report_complete (Err (ReadFault name)) ends tells program accepted reads writes = absurd (reads ends.0.1)
     report_complete (Err (WriteFault name)) ends tells program accepted reads writes = absurd (writes ends.1.1)
     report_complete (Err OutOfMemory) ends tells program accepted reads writes = inr refl

@@ -64,10 +64,18 @@ abbrev pub IsUnreadOf : (input profile_name : List ℕ) → HostState → (name 
 IsUnreadOf input profile_name old name =
     (name ≡ input) ⊎ ((name ≡ profile_name) × (IsTrue old.tells → (program : Program) × ReadsAs old input program))
 
+-- the problem is one of a module or of its profile
+abbrev pub IsOfReading : Problem → Type 0
+IsOfReading TooLong = Unit {0}
+IsOfReading (Text refusal excerpt) = Unit {0}
+IsOfReading LongProfile = Unit {0}
+IsOfReading (BadProfile problem) = Unit {0}
+IsOfReading _ = ⊥
+
 -- why the module and the profile were not accepted; no file changed
 abbrev pub AreUnaccepted : (input profile : List ℕ) → HostState → HostState → Stop → Type 0
 AreUnaccepted input profile old new (Refused file problem) =
-    (file.now ≡ unread_file input profile problem) × (new.file ≡ old.file)
+    IsOfReading problem × (file.now ≡ unread_file input profile problem) × (new.file ≡ old.file)
     × (IsTrue old.tells → HasReadProblem input profile old problem × KeepsRead input old problem)
 AreUnaccepted input profile old new (ReadFault name) =
     (new.file ≡ old.file) × Rose old.read_faults new.read_faults × IsUnreadOf input profile old name.now

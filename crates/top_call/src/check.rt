@@ -11,9 +11,9 @@ ghost use Rattle.top_call.specs.Command.{files_of};
 ghost use Rattle.top_call.specs.Print.{text_limit};
 ghost use Rattle.top_call.specs.Stops.{StopsCertifying, StopsChecking, StopsReadingWhole};
 
+use crate::accepted::accept;
 use crate::command::OptNames;
-use crate::opt::{counted, keeps_rules};
-use crate::print::{parsed, read_short};
+use crate::print::read_short;
 use call_lines::{Done, Problem, Stop, finish};
 use certificate::{CertError, Certificate, from_json};
 use checker::{Verdict, check_all};
@@ -92,14 +92,17 @@ fn check_source<'a, H: Host>(
         CheckEnds (files_of names.entry) before (H.state host.new) result }
     ensures rest { OnlyReads (H.state host.old) (H.state host.new) }
 {
-    let program = parsed(alloc, names.input, source)?;
-    keeps_rules(&program);
-    let profile = read_short(alloc, host, names.profile, Problem::LongProfile)?;
-    let counts = counted(alloc, names.profile, &profile, &program)?;
+    let accepted = accept(alloc, host, names.input, names.profile, source)?;
     let text = read_short(alloc, host, names.output, Problem::LongOutput)?;
     let json = read_whole(alloc, host, names.certificate)?;
     let certificate = certified(alloc, names.certificate, &json)?;
-    agreed(alloc, &program, &counts, &text, &certificate)?;
+    agreed(
+        alloc,
+        &accepted.program,
+        &accepted.counts,
+        &text,
+        &certificate,
+    )?;
     Ok(Done::Checked)
 }
 

@@ -2,22 +2,21 @@
 ghost use Rattle.std.specs.Prelude.{◌≡◌, ◌≢◌, ◌≤◌, length, All, IsTrue, IfOk, IfErr, OnOk, Some};
 ghost use Rattle.mc_host.specs.Host.{HostState, OnlyReads};
 ghost use Rattle.ir_types.specs.Limits.{IsWithinLimits};
-ghost use Rattle.ir_types.specs.WellFormed.{IsWellFormed};
 ghost use Rattle.certificate.specs.Limits.{IsWithin};
 ghost use Rattle.certificate.specs.Text.{json};
 ghost use Rattle.optimise.specs.Optimised.{IsOptimisedBy};
 ghost use Rattle.profile.specs.Counts.{IsAccepted};
-ghost use Rattle.profile.specs.Reading as reading;
 ghost use Rattle.top_call.specs.Command.{files_of};
 ghost use Rattle.call_lines.specs.Lines.{Answers};
 ghost use Rattle.top_call.specs.Opt.{OptEnds, OnlyOptimises};
 ghost use Rattle.call_lines.specs.declared.ending.Stop.TheVariants.{OutOfMemory};
 ghost use Rattle.top_call.specs.Print.{text_limit};
-ghost use Rattle.top_call.specs.Stops.{AreOptimisedTexts, StopsCounting, StopsOptimising, StopsWritingBoth};
+ghost use Rattle.top_call.specs.Stops.{AreOptimisedTexts, StopsOptimising, StopsWritingBoth};
 
+use crate::accepted::{accept, keeps_rules};
 use crate::command::OptNames;
-use crate::print::{parsed, printed, read_short, write_text};
-use call_lines::{Done, Problem, Stop, finish, problem_of};
+use crate::print::{printed, read_short, write_text};
+use call_lines::{Done, Problem, Stop, finish};
 use certificate::{Certificate, text_holds_its_certificate, to_json};
 use certified::certified_are_best;
 use ir_check::within_limits;
@@ -27,38 +26,8 @@ use mc_host::{Host, Sink};
 use mc_num::NoMemory;
 use optimise::{OptimiseError, Optimised, optimise};
 use plain_same::plain_same;
-use profile::{Profile, read_profile};
+use profile::Profile;
 use std::alloc::Global;
-
-/// A module keeps its rules. It does nothing.
-pub(crate) fn keeps_rules(program: &Module<'_>)
-    ensures { IsWellFormed program.now }
-{
-    let _functions = program.functions();
-}
-
-/// The counts that the bytes of a profile say.
-pub(crate) fn counted<'a>(
-    alloc: Global,
-    file: &'a str,
-    bytes: &[u8],
-    program: &Module<'_>,
-) -> Result<Profile, Stop<'a>>
-    requires { length bytes.now ≤ text_limit }
-    ensures read { IfOk result (λ profile. reading.Reads program.now bytes.now profile.functions) }
-    ensures stops { IfErr result (StopsCounting file.now bytes.now program.now) }
-{
-    match read_profile(alloc, bytes, program) {
-        Ok(profile) => Ok(profile),
-        Err(error) => match problem_of(error) {
-            Some(problem) => Err(Stop::Refused {
-                file,
-                problem: Problem::BadProfile(problem),
-            }),
-            None => Err(Stop::OutOfMemory),
-        },
-    }
-}
 
 /// The texts that `opt` writes.
 #[derive(Drop)]
@@ -171,11 +140,8 @@ fn opt_source<'a, H: Host>(
         OptEnds (files_of names.entry) before (H.state host.new) result }
     ensures rest { OnlyOptimises (files_of names.entry) (H.state host.old) (H.state host.new) }
 {
-    let program = parsed(alloc, names.input, source)?;
-    keeps_rules(&program);
-    let profile = read_short(alloc, host, names.profile, Problem::LongProfile)?;
-    let counts = counted(alloc, names.profile, &profile, &program)?;
-    let texts = optimised_texts(alloc, names.input, &program, &counts)?;
+    let accepted = accept(alloc, host, names.input, names.profile, source)?;
+    let texts = optimised_texts(alloc, names.input, &accepted.program, &accepted.counts)?;
     write_both(alloc, host, names, &texts)?;
     Ok(Done::Written)
 }
