@@ -51,7 +51,7 @@ pub enum Problem<'a> {
 /// What a call did.
 #[derive(Clone, Copy, Debug, PartialEq, Eq)]
 pub enum Done {
-    /// It wrote its files.
+    /// It wrote its texts.
     Written,
     /// The checker says yes.
     Checked,
