@@ -10,6 +10,7 @@ ghost use Rattle.top_call.specs.Report.{AreFitChoices, IsSummarised, ItselfEnds}
 ghost use Rattle.top_call.specs.Stops.{StopsOptimising, StopsSummarising};
 ghost use Rattle.std.specs.Prelude.{codes};
 
+use crate::accepted::keeps_rules;
 use crate::opt::optimised;
 use crate::print::printed;
 use crate::putting::put_text;
@@ -26,9 +27,6 @@ use placement::Placement;
 use profile::{Profile, read_profile};
 use report::summary;
 use std::alloc::Global;
-
-/// The file's name in a refusal.
-const NAME: &str = "self";
 
 /// The module of so many diamonds, read from its text.
 fn module_of(alloc: Global, n: u32, text: &[u8]) -> Result<Module<'_>, NoMemory>
@@ -56,8 +54,10 @@ fn counts_of(alloc: Global, n: u32, program: &Module<'_>, text: &[u8]) -> Result
     ensures counts { IfOk result (λ profile. profile.functions ≡ workload_counts n) }
     ensures accepted { IfOk result (λ profile. IsAccepted program.now profile.functions) }
 {
+    keeps_rules(program);
     workloads_are_accepted();
     profile::one_answer();
+    // Only memory can be wanting, since the text is the profile of these counts.
     match read_profile(alloc, text, program) {
         Ok(counts) => Ok(counts),
         Err(_) => Err(NoMemory),
@@ -75,14 +75,14 @@ fn fit_choices<'a>(
     ensures chosen { IfOk result (λ placements. AreFitChoices program.now counts.now.functions placements.items) }
     ensures stops { IfErr result (StopsOptimising (codes "self") program.now counts.now.functions) }
 {
-    let optimised = optimised(alloc, NAME, program, counts)?;
+    let optimised = optimised(alloc, "self", program, counts)?;
     if !within_limits(&optimised.module) {
         return Err(Stop::Refused {
-            file: NAME,
+            file: "self",
             problem: Problem::Grown,
         });
     }
-    let _text = printed(alloc, NAME, &optimised.module)?;
+    let _text = printed(alloc, "self", &optimised.module)?;
     optimised_are_choices();
     match named_placements(alloc, &optimised.certificate) {
         Ok(placements) => Ok(placements),
