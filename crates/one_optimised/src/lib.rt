@@ -4,6 +4,8 @@
 ghost use Rattle.std.specs.Prelude.{◌≡◌, List};
 ghost use Rattle.ir_types.specs.Program.{Program};
 ghost use Rattle.profile.specs.declared.counts.FnCounts.{FnCounts};
+ghost use Rattle.placement.specs.declared.placements.Placement.{Placement};
+ghost use Rattle.optimise.specs.Choices.{AreChoices};
 ghost use Rattle.optimise.specs.Optimised.{HasTooMany, IsOptimised};
 
 use best_choice::one_best_in;
@@ -20,4 +22,14 @@ pub fn one_optimised()
     one_lazy();
     one_numbering();
     one_transformed();
+}
+
+/// By its counts the placements that are chosen in a module are determined.
+pub fn one_choice()
+    ensures { (m : Program) (counts : List FnCounts) (one other : List (List Placement)) → AreChoices m counts one → AreChoices m counts other → one ≡ other }
+{
+    best_stays();
+    one_best_in();
+    one_lazy();
+    one_numbering();
 }
