@@ -21,7 +21,7 @@ use Rattle.one_transformed.specs.Laws.{BestStays, OneNumbering}
 use Rattle.one_transformed.specs.Numberings.{AreSame}
 
 -- lists of one length that agree at each place
-same_listed : {X : Type 0} (xs ys : List X) → length xs ≡ length ys → ((i : ℕ) (x y : X) → slice_get xs i ≡ Some x → slice_get ys i ≡ Some y → x ≡ y) → xs ≡ ys
+pub same_listed : {X : Type 0} (xs ys : List X) → length xs ≡ length ys → ((i : ℕ) (x y : X) → slice_get xs i ≡ Some x → slice_get ys i ≡ Some y → x ≡ y) → xs ≡ ys
 same_listed [] [] count same = refl
 same_listed [] (y ∷ ys) count same = absurd (omega (arith, count))
 same_listed (x ∷ xs) [] count same = absurd (omega (arith, count))

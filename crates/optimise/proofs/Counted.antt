@@ -41,6 +41,27 @@ before_declared g gs k d =
     let first : one g ≡ 0 = ap (λ b. if b then 1 else 0) d in
     omega (arith, sum_by-cons one g (take k gs), first)
 
+-- each place in front of the number of functions that have blocks is that of one of them
+pub record HasPlace (fs : List Function) (place : ℕ) : Type 0 where
+  pub number : ℕ
+  pub function : Function
+  pub there : slice_get fs number ≡ Some function
+  pub defined : is_defined function.blocks ≡ true
+  pub before : defined_before fs number ≡ place
+
+place_behind : (g : Function) (gs : List Function) → ((place : ℕ) → place < defined_before gs (length gs) → HasPlace gs place) → (b : Bool) → is_defined g.blocks ≡ b → (place : ℕ) → place < defined_before (g ∷ gs) (suc (length gs)) → HasPlace (g ∷ gs) place
+place_behind g gs rest true d zero lt = record { number = 0; function = g; there = refl; defined = d; before = refl }
+place_behind g gs rest true d (suc place) lt =
+    let is = rest place (omega (arith, lt, before_defined g gs (length gs) d)) in
+    record { number = suc is.number; function = is.function; there = is.there; defined = is.defined; before = before_defined g gs is.number d ∙ ap suc is.before }
+place_behind g gs rest false d place lt =
+    let is = rest place (omega (arith, lt, before_declared g gs (length gs) d)) in
+    record { number = suc is.number; function = is.function; there = is.there; defined = is.defined; before = before_declared g gs is.number d ∙ is.before }
+
+pub has_place : (fs : List Function) (place : ℕ) → place < defined_before fs (length fs) → HasPlace fs place
+has_place [] place lt = absurd (omega (arith, lt))
+has_place (g ∷ gs) place lt = place_behind g gs (has_place gs) (is_defined g.blocks) refl place lt
+
 module _ (R : Function → FnCounts → Type 0) where
   abbrev AreAll : List Function → List FnCounts → Type 0
   AreAll fs cs = AllZip R (filter counts.is_defined fs) cs

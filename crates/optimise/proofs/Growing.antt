@@ -23,7 +23,7 @@ use Rattle.optimise.specs.declared.error.OptimiseError.{OptimiseError}
 use Rattle.optimise.specs.declared.error.OptimiseError.TheVariants.{TooMany, NoMemory}
 use Rattle.optimise.proofs.Counted.{own_counts}
 
-get_grown : {X : Type 0} (xs : List X) (y : X) (k : ℕ) (x : X) → slice_get xs k ≡ Some x → slice_get (xs ++ y ∷ []) k ≡ Some x
+pub get_grown : {X : Type 0} (xs : List X) (y : X) (k : ℕ) (x : X) → slice_get xs k ≡ Some x → slice_get (xs ++ y ∷ []) k ≡ Some x
 get_grown [] y k x e = absurd (none-some x e)
 get_grown (z ∷ xs) y zero x e = e
 get_grown (z ∷ xs) y (suc k) x e = get_grown xs y k x e

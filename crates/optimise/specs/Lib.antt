@@ -1,3 +1,4 @@
 pub mod Choice
+pub mod Choices
 pub mod Optimised
 pub mod Placing

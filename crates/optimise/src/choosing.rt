@@ -146,7 +146,7 @@ fn choice(
 }
 
 /// For each expression the entry with the placement that is chosen by the counts of the function.
-fn entries(
+pub(crate) fn entries(
     alloc: Global,
     function: &Function<'_>,
     points: &Points,
