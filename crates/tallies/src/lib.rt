@@ -1,0 +1,22 @@
+//! What placements cost and save, expression by expression.
+#![tactic(auto)]
+
+ghost use Rattle.tallies.specs.Laws.{OneTallying};
+
+mod profiled;
+pub mod tally;
+mod tallying;
+pub mod totals;
+
+pub use tally::Tally;
+pub use tallying::{Tallied, tallies};
+pub use totals::Totals;
+
+use one_transformed::one_numbering;
+
+/// By its counts the placements of a module have one tally each.
+pub fn one_tallying()
+    ensures { OneTallying }
+{
+    one_numbering();
+}
