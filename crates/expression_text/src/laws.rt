@@ -10,5 +10,4 @@ ghost use Rattle.expression_text.specs.ExpressionText.{operation_by};
 /// The canonical text has each operation in the form that expressions have, with the values of registers.
 pub fn as_printed()
     ensures { (f : Function) (b : Block) (op : Op) (operands : List Operand) → operation_text f b op operands ≡ operation_by (value_text f b) op operands }
-{
-}
+{}

@@ -63,11 +63,6 @@ pub fn summary(
 {
     let tallied = tallies(alloc, program, profile, placements)?;
     let mut text = Text::new(alloc);
-    put_lines(
-        &mut text,
-        n,
-        blocks_of(program.functions()),
-        tallied.totals,
-    )?;
+    put_lines(&mut text, n, blocks_of(program.functions()), tallied.totals)?;
     Ok(text.into_bytes())
 }
