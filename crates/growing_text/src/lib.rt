@@ -1,0 +1,6 @@
+//! A text that grows in memory.
+#![tactic(auto)]
+
+mod text;
+
+pub use text::Text;
