@@ -22,6 +22,7 @@ pub struct Counted<'a> {
     pub counts: Profile,
 }
 
+#[tactic(auto, using(crate::proofs::Ranges::flat_map_range_push))]
 fn blocks<'a>(
     alloc: Global,
     n: u32,
@@ -74,6 +75,7 @@ fn push_counts(counts: &mut Vec<u64>, round: u32) -> Result<(), NoMemory>
     Ok(())
 }
 
+#[tactic(auto, using(crate::proofs::Ranges::flat_map_range_push))]
 fn main_counts(alloc: Global, n: u32) -> Result<FnCounts, NoMemory>
     requires { n ≤ 10000 }
     ensures { IfOk result (λ counts. counts ≡ main_counts n) }

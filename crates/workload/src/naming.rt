@@ -65,6 +65,7 @@ fn round_names(alloc: Global, round: u32) -> Result<RoundNames, NoMemory>
 /// The names of the first `n` rounds, in order. A module borrows its names, so its maker keeps these.
 ///
 /// `NoMemory` where an allocation was refused.
+#[tactic(auto, using(crate::proofs::Ranges::map_range_push))]
 pub fn names(alloc: Global, n: u32) -> Result<Items<RoundNames>, NoMemory>
     ensures { IfOk result (λ names. names ≡ map round_names (range_with_len 0 n)) }
 {
