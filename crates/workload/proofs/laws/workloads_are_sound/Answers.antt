@@ -1,7 +1,7 @@
 use Rattle.std.proofs.Common.{ℕ, ◌≤◌}
 use Rattle.workload.specs.Sound.{IsSound}
-use Rattle.workload.proofs.Differing.{names_differ}
+use Rattle.workload.proofs.Rules.{keeps_rules, keeps_limits}
 use Rattle.workload.proofs.laws.workloads_are_sound.Goals as goal
 
 pub returns : goal.returns
-returns c = let h = names_differ in ?
+returns c = λ n le. record { rules = keeps_rules n le; limits = keeps_limits n le; accepted = ? }
