@@ -1,6 +1,8 @@
 //! The module and its counts.
 ghost use Rattle.std.specs.Prelude.{◌≡◌, ◌<◌, ◌≤◌, ◌++◌, ◌∷◌, [], map, IfOk, OnOk};
 ghost use Rattle.std.specs.List.{flat_map, range_with_len};
+ghost use Rattle.ir_types.specs.declared.name.Name.TheVariants.{Text};
+ghost use Rattle.mc_num.specs.declared.op.Width.TheVariants.{I32};
 ghost use Rattle.workload.specs.Names.{round_names};
 ghost use Rattle.workload.specs.Workload.{left_count, round_counts, main_function, main_counts, workload_program, workload_counts};
 
@@ -40,7 +42,9 @@ fn blocks<'a>(
     Ok(blocks)
 }
 
-fn variable<'a>(name: &'a [u8]) -> (Width, Name<'a>) {
+fn variable(name: &[u8]) -> (Width, Name<'_>)
+    ensures { result ≡ (I32, Text name.now) }
+{
     (Width::I32, Name::Text(Spelling::new(name)))
 }
 
