@@ -77,24 +77,24 @@ places n a (suc k) e lt =
     let small : a < 2 ^ 64 = omega (arith, e) in
     let next : 10 * (a + 1) + 3 ≡ 10 * a + 3 + 1 + 1 + 1 + 1 + 1 + 1 + 1 + 1 + 1 + 1 = omega arith in
     cons _ _ _ _ (at n 115 a [] small refl (10 * a + 3) (omega arith)) (
-      cons _ _ _ _ (at n 115 a (codes ".a") small refl (10 * a + 3 + 1) (omega arith)) (
-        cons _ _ _ _ (at n 115 a (codes ".c") small refl (10 * a + 3 + 1 + 1) (omega arith)) (
-          cons _ _ _ _ (at n 108 a [] small refl (10 * a + 3 + 1 + 1 + 1) (omega arith)) (
-            cons _ _ _ _ (at n 108 a (codes ".a") small refl (10 * a + 3 + 1 + 1 + 1 + 1) (omega arith)) (
-              cons _ _ _ _ (at n 108 a (codes ".v") small refl (10 * a + 3 + 1 + 1 + 1 + 1 + 1) (omega arith)) (
-                cons _ _ _ _ (at n 114 a [] small refl (10 * a + 3 + 1 + 1 + 1 + 1 + 1 + 1) (omega arith)) (
-                  cons _ _ _ _ (at n 106 a [] small refl (10 * a + 3 + 1 + 1 + 1 + 1 + 1 + 1 + 1) (omega arith)) (
-                    cons _ _ _ _ (at n 106 a (codes ".a") small refl (10 * a + 3 + 1 + 1 + 1 + 1 + 1 + 1 + 1 + 1) (omega arith)) (
-                      cons _ _ _ _ (at n 106 a (codes ".v") small refl (10 * a + 3 + 1 + 1 + 1 + 1 + 1 + 1 + 1 + 1 + 1) (omega arith))
-                        (more ∙ ap (λ x. range_with_len x (10 * k + 1)) next)
-                    )
-                  )
-                )
-              )
-            )
-          )
-        )
-      )
+    cons _ _ _ _ (at n 115 a (codes ".a") small refl (10 * a + 3 + 1) (omega arith)) (
+    cons _ _ _ _ (at n 115 a (codes ".c") small refl (10 * a + 3 + 1 + 1) (omega arith)) (
+    cons _ _ _ _ (at n 108 a [] small refl (10 * a + 3 + 1 + 1 + 1) (omega arith)) (
+    cons _ _ _ _ (at n 108 a (codes ".a") small refl (10 * a + 3 + 1 + 1 + 1 + 1) (omega arith)) (
+    cons _ _ _ _ (at n 108 a (codes ".v") small refl (10 * a + 3 + 1 + 1 + 1 + 1 + 1) (omega arith)) (
+    cons _ _ _ _ (at n 114 a [] small refl (10 * a + 3 + 1 + 1 + 1 + 1 + 1 + 1) (omega arith)) (
+    cons _ _ _ _ (at n 106 a [] small refl (10 * a + 3 + 1 + 1 + 1 + 1 + 1 + 1 + 1) (omega arith)) (
+    cons _ _ _ _ (at n 106 a (codes ".a") small refl (10 * a + 3 + 1 + 1 + 1 + 1 + 1 + 1 + 1 + 1) (omega arith)) (
+    cons _ _ _ _ (at n 106 a (codes ".v") small refl (10 * a + 3 + 1 + 1 + 1 + 1 + 1 + 1 + 1 + 1 + 1) (omega arith))
+    (more ∙ ap (λ x. range_with_len x (10 * k + 1)) next)
+    )
+    )
+    )
+    )
+    )
+    )
+    )
+    )
     )
     ∙ ap (range_with_len (10 * a + 3)) (ten_more k)
 
@@ -127,16 +127,34 @@ spellable_tail : (a k : ℕ) → AllByRecursion IsSpellable (block_names (tail a
 spellable_tail a zero = (record { some = omega arith; quotable = refl }, tt)
 spellable_tail a (suc k) = (
   good 115 a [] refl refl,
-  (good 115 a (codes ".a") refl refl,
-  (good 115 a (codes ".c") refl refl,
-  (good 108 a [] refl refl,
-  (good 108 a (codes ".a") refl refl,
-  (good 108 a (codes ".v") refl refl,
-  (good 114 a [] refl refl,
-  (good 106 a [] refl refl,
-  (good 106 a (codes ".a") refl refl,
-  (good 106 a (codes ".v") refl refl,
-  spellable_tail (a + 1) k)))))))))
+  (
+    good 115 a (codes ".a") refl refl,
+    (
+      good 115 a (codes ".c") refl refl,
+      (
+        good 108 a [] refl refl,
+        (
+          good 108 a (codes ".a") refl refl,
+          (
+            good 108 a (codes ".v") refl refl,
+            (
+              good 114 a [] refl refl,
+              (
+                good 106 a [] refl refl,
+                (
+                  good 106 a (codes ".a") refl refl,
+                  (
+                    good 106 a (codes ".v") refl refl,
+                    spellable_tail (a + 1) k,
+                  ),
+                ),
+              ),
+            ),
+          ),
+        ),
+      ),
+    ),
+  ),
 )
 
 pub spellable : (n : ℕ) → All IsSpellable (names (main_function n))

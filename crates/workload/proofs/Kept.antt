@@ -90,7 +90,11 @@ enters_round reached c b a k e all =
     let at1 = sum_by-cons f ((b, 4 * a + 2), l) (((b, 4 * a + 3), r) ∷ ((b + 1, 4 * a + 4), l) ∷ ((b + 1 + 1, 4 * a + 4), r) ∷ ((b + 1 + 1 + 1, 4 * a + 5), 100) ∷ later) in
     omega (
       arith,
-      at1, at2, at3, at4, at5,
+      at1,
+      at2,
+      at3,
+      at4,
+      at5,
       enters_is reached c b (4 * a + 2) l (4 * a + 2) (all b (omega (arith, e))) refl,
       enters_is reached c b (4 * a + 3) r (4 * a + 3) (all b (omega (arith, e))) refl,
       enters_is reached c (b + 1) (4 * a + 4) l (4 * a + 4) (all (b + 1) (omega (arith, e))) refl,
@@ -113,7 +117,11 @@ leaves_round c b a k e =
     let at1 = sum_by-cons f ((b, 4 * a + 2), l) (((b, 4 * a + 3), r) ∷ ((b + 1, 4 * a + 4), l) ∷ ((b + 1 + 1, 4 * a + 4), r) ∷ ((b + 1 + 1 + 1, 4 * a + 5), 100) ∷ later) in
     omega (
       arith,
-      at1, at2, at3, at4, at5,
+      at1,
+      at2,
+      at3,
+      at4,
+      at5,
       leaves_is c b (4 * a + 2) l (4 * a + 1) e,
       leaves_is c b (4 * a + 3) r (4 * a + 1) e,
       leaves_is c (b + 1) (4 * a + 4) l (4 * a + 2) (omega (arith, e)),

@@ -57,8 +57,8 @@ slot_in slot o = option_and_then (λ x. slice_get (slots_of x.term) slot) o
 step : (n j r slot b c : ℕ) → j < n → r < 4 → slot_in slot (slice_get (round_blocks j) r) ≡ Some c → b ≡ suc (4 * j + r) → c < 4 * n + 2 → IsMet n b → IsMet n c
 step n j r slot b c lt few leads is inside met =
     let at : next_block (main_function n) b slot ≡ Some c =
-        ap (λ x. next_block (main_function n) x slot) is
-        ∙ (ap (slot_in slot) (at_round 0 n j r lt few) ∙ (let same : 0 + j ≡ j = omega arith in ap (λ x. slot_in slot (slice_get (round_blocks x) r)) same) ∙ leads) in
+    ap (λ x. next_block (main_function n) x slot) is
+    ∙ (ap (slot_in slot) (at_round 0 n j r lt few) ∙ (let same : 0 + j ≡ j = omega arith in ap (λ x. slot_in slot (slice_get (round_blocks x) r)) same) ∙ leads) in
     record { inside = omega (arith, length_tail 0 n); path = met.path ++ slot ∷ []; leads = path_on (main_function n) 0 met.path b slot c met.leads at }
 
 -- where a round starts, and the end

@@ -108,12 +108,18 @@ tail_in : (count a k : ℕ) → 4 * (a + k) + 1 < count → AllByRecursion (IsBl
 tail_in count a zero lt = (end_in count, tt)
 tail_in count a (suc k) lt =
     let names = round_names a in (
-    start_in count a (omega arith),
-    (adding_in count names.left names.left_value names.left_sum a work.t (4 * a + 4) refl (omega arith, omega arith),
-    (right_in count a (omega arith),
-    (adding_in count names.join names.join_value names.join_sum a work.a (4 * a + 5) refl (omega arith, omega arith),
-    tail_in count (a + 1) k (omega arith))))
-  )
+      start_in count a (omega arith),
+      (
+        adding_in count names.left names.left_value names.left_sum a work.t (4 * a + 4) refl (omega arith, omega arith),
+        (
+          right_in count a (omega arith),
+          (
+            adding_in count names.join names.join_value names.join_sum a work.a (4 * a + 5) refl (omega arith, omega arith),
+            tail_in count (a + 1) k (omega arith),
+          ),
+        ),
+      ),
+    )
 
 -- ---- the function
 

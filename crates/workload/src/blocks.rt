@@ -85,11 +85,7 @@ pub(crate) fn entry<'a>(alloc: Global) -> Result<Block<'a>, NoMemory>
 }
 
 /// The block where a round starts.
-fn start(
-    alloc: Global,
-    names: &RoundNames,
-    round: u32,
-) -> Result<Block<'_>, NoMemory>
+fn start(alloc: Global, names: &RoundNames, round: u32) -> Result<Block<'_>, NoMemory>
     requires few { round < 10000 }
     requires names { names.now ≡ round_names round }
     ensures { IfOk result (λ block. block ≡ start round) }
@@ -114,7 +110,10 @@ fn adding<'a>(
     next: u32,
 ) -> Result<Block<'a>, NoMemory>
     ensures { IfOk result (λ block. block ≡ record {
-        name = Text name.now; instrs = load value.now ∷ add sum.now round ∷ store (Operand.Reg 1) variable ∷ []; term = Terminator.Jump next }) }
+      name = Text name.now;
+      instrs = load value.now ∷ add sum.now round ∷ store (Operand.Reg 1) variable ∷ [];
+      term = Terminator.Jump next;
+    }) }
 {
     let add = add(alloc, sum, round)?;
     let instrs = vec![in alloc; load(value), add, store(Operand::Reg(1), variable)]?;

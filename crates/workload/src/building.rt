@@ -25,11 +25,7 @@ pub struct Counted<'a> {
 }
 
 #[tactic(auto, using(crate::proofs::Ranges::flat_map_range_push))]
-fn blocks<'a>(
-    alloc: Global,
-    n: u32,
-    names: &'a [RoundNames],
-) -> Result<Vec<Block<'a>>, NoMemory>
+fn blocks<'a>(alloc: Global, n: u32, names: &'a [RoundNames]) -> Result<Vec<Block<'a>>, NoMemory>
     requires few { n ≤ 10000 }
     requires names { names.now ≡ map round_names (range_with_len 0 n) }
     ensures { IfOk result (λ blocks. blocks.items ≡ (main_function n).blocks) }
@@ -97,11 +93,7 @@ fn main_counts(alloc: Global, n: u32) -> Result<FnCounts, NoMemory>
 /// The module of `n` rounds, which borrows these names, and its counts: the names are those of `n` rounds.
 ///
 /// `NoMemory` where an allocation was refused.
-pub fn workload(
-    alloc: Global,
-    n: u32,
-    names: &Items<RoundNames>,
-) -> Result<Counted<'_>, NoMemory>
+pub fn workload(alloc: Global, n: u32, names: &Items<RoundNames>) -> Result<Counted<'_>, NoMemory>
     requires few { n ≤ 10000 }
     requires names { names.now ≡ map round_names (range_with_len 0 n) }
     ensures module { IfOk result (λ made. made.module ≡ workload_program n) }
