@@ -8,11 +8,10 @@ pub mod tally;
 mod tallying;
 pub mod totals;
 
+use one_transformed::one_numbering;
 pub use tally::Tally;
 pub use tallying::{Tallied, tallies};
 pub use totals::Totals;
-
-use one_transformed::one_numbering;
 
 /// By its counts the placements of a module have one tally each.
 pub fn one_tallying()

@@ -62,7 +62,7 @@ fn all_kept(alloc: Global, occurrences: &[u32]) -> Result<Placement, NoMemory>
 }
 
 /// The tally of a placement of an expression that occurs at these points.
-pub(crate) fn tally(
+pub(crate) fn tally_of(
     alloc: Global,
     function: &Function<'_>,
     points: &Points,

@@ -10,7 +10,7 @@ ghost use Rattle.occurrences.specs.Listed.{AreOccurrences};
 ghost use Rattle.tallies.specs.Tallies.{AreFitting, AreFittingBy, AreFittingIn, AreTallies, AreTalliesBy, AreTalliesIn, totals_of};
 ghost use Rattle.tallies.specs.Steps.{AreOwnCounts, AreLight};
 
-use crate::tally::{Tally, tally};
+use crate::tally::{Tally, tally_of};
 use crate::totals::Totals;
 use block_counts::{BlockCounts, block_counts};
 use expressions::{Table, table};
@@ -59,7 +59,7 @@ fn each_tally(
     for e in 0..table.len() {
         let own = occurrences[e as usize].as_slice();
         let placement = &placements[e as usize];
-        tallies.push(tally(
+        tallies.push(tally_of(
             alloc, function, points, table, e, counts, by_block, own, placement,
         )?)?;
     }
@@ -88,7 +88,14 @@ fn tallies_in(
     let occurrences = occurrences(alloc, &table)?;
     let by_block = block_counts(alloc, function, counts)?;
     each_tally(
-        alloc, function, &points, &table, counts, &by_block, &occurrences, placements,
+        alloc,
+        function,
+        &points,
+        &table,
+        counts,
+        &by_block,
+        &occurrences,
+        placements,
     )
 }
 
