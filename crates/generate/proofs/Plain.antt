@@ -14,7 +14,7 @@ plain_tail a zero = refl
 plain_tail a (suc k) = ap (λ (l : List Block). start a ∷ left a ∷ right a ∷ join a ∷ l) (plain_tail (a + 1) k)
 
 with_blocks : ℕ → List Block → Program
-with_blocks n blocks = record { globals = []; functions = record main_function n { blocks = entry ∷ blocks } ∷ [] }
+with_blocks n blocks = record { globals = []; functions = record (main_function n) { blocks = entry ∷ blocks } ∷ [] }
 
 pub plain_is : (n : ℕ) → plain (workload_program n) ≡ workload_program n
 unfolding with_blocks

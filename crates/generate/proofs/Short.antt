@@ -110,7 +110,7 @@ jump_short n b t le e =
 
 -- ---- blocks
 
-start_short : (n j : ℕ) → n ≤ 10000 → j < 10 ^ 5 → Short 150 (block_text (workload_program n) (main_function n) [] (start j))
+start_short : (n j : ℕ) → n ≤ 10000 → j < 10 ^ 5 → Short 200 (block_text (workload_program n) (main_function n) [] (start j))
 start_short n j le lt =
     let m = workload_program n in
     let f = main_function n in
@@ -119,7 +119,7 @@ start_short n j le lt =
     let two = line_short m f (start j) (test (round_names j).start_test) (result_short 115 j (codes ".c") (omega arith) lt) (both (whole (codes "icmp slt i32 ")) (both value (both (whole (codes ", ")) zero_short))) in
     let branch = both (whole (codes "br i1 ")) (both (local_short 115 j (codes ".c") (omega arith) lt) (both (whole (codes ", ")) (both (label_short n (4 * j + 2) le) (both (whole (codes ", ")) (label_short n (4 * j + 3) le))))) in
     let last = both (whole (codes "  ")) (both branch (whole (codes "\n"))) in
-    within 150 (both (name_short 115 j [] (omega arith) lt) (both (whole (codes ":\n")) (both (both one (both two (whole []))) last))) (omega arith)
+    within 200 (both (name_short 115 j [] (omega arith) lt) (both (whole (codes ":\n")) (both (both one (both two (whole []))) last))) (omega arith)
 
 -- a block that adds to what it reads and stores the sum
 abbrev adding : ℕ → ℕ → Variable → ℕ → Block
@@ -129,7 +129,7 @@ adding c j v next = record {
   term = Jump next;
 }
 
-adding_short : (n c j : ℕ) (v : Variable) (next : ℕ) → n ≤ 10000 → j < 10 ^ 5 → Short 29 (kind_text (workload_program n) (main_function n) (adding c j v next) (Store (Reg 1) v)) → Short 150 (block_text (workload_program n) (main_function n) [] (adding c j v next))
+adding_short : (n c j : ℕ) (v : Variable) (next : ℕ) → n ≤ 10000 → j < 10 ^ 5 → Short 29 (kind_text (workload_program n) (main_function n) (adding c j v next) (Store (Reg 1) v)) → Short 200 (block_text (workload_program n) (main_function n) [] (adding c j v next))
 adding_short n c j v next le lt stored =
     let m = workload_program n in
     let f = main_function n in
@@ -138,37 +138,37 @@ adding_short n c j v next le lt stored =
     let one = line_short m f b (load (c ∷ (decimal j ++ codes ".a"))) (result_short c j (codes ".a") (omega arith) lt) (whole (codes "load i32, ptr %a")) in
     let two = line_short m f b (add (c ∷ (decimal j ++ codes ".v")) j) (result_short c j (codes ".v") (omega arith) lt) (both (whole (codes "add i32 ")) (both value (both (whole (codes ", ")) (constant_short j)))) in
     let three = line_short m f b (store (Reg 1) v) (whole []) stored in
-    within 150 (both (name_short c j [] (omega arith) lt) (both (whole (codes ":\n")) (both (both one (both two (both three (whole [])))) (jump_short n b next le refl)))) (omega arith)
+    within 200 (both (name_short c j [] (omega arith) lt) (both (whole (codes ":\n")) (both (both one (both two (both three (whole [])))) (jump_short n b next le refl)))) (omega arith)
 
-left_short : (n j : ℕ) → n ≤ 10000 → j < 10 ^ 5 → Short 150 (block_text (workload_program n) (main_function n) [] (left j))
+left_short : (n j : ℕ) → n ≤ 10000 → j < 10 ^ 5 → Short 200 (block_text (workload_program n) (main_function n) [] (left j))
 left_short n j le lt =
     adding_short n 108 j work.t (4 * j + 4) le lt (both (whole (codes "store i32 ")) (both (local_short 108 j (codes ".v") (omega arith) lt) (whole (codes ", ptr %t"))))
 
-join_short : (n j : ℕ) → n ≤ 10000 → j < 10 ^ 5 → Short 150 (block_text (workload_program n) (main_function n) [] (join j))
+join_short : (n j : ℕ) → n ≤ 10000 → j < 10 ^ 5 → Short 200 (block_text (workload_program n) (main_function n) [] (join j))
 join_short n j le lt =
     adding_short n 106 j work.a (4 * j + 5) le lt (both (whole (codes "store i32 ")) (both (local_short 106 j (codes ".v") (omega arith) lt) (whole (codes ", ptr %a"))))
 
-right_short : (n j : ℕ) → n ≤ 10000 → j < 10 ^ 5 → Short 150 (block_text (workload_program n) (main_function n) [] (right j))
-right_short n j le lt = within 150 (both (name_short 114 j [] (omega arith) lt) (both (whole (codes ":\n")) (jump_short n (right j) (4 * j + 4) le refl))) (omega arith)
+right_short : (n j : ℕ) → n ≤ 10000 → j < 10 ^ 5 → Short 200 (block_text (workload_program n) (main_function n) [] (right j))
+right_short n j le lt = within 200 (both (name_short 114 j [] (omega arith) lt) (both (whole (codes ":\n")) (jump_short n (right j) (4 * j + 4) le refl))) (omega arith)
 
 end_short : (n : ℕ) → Short 30 (block_text (workload_program n) (main_function n) [] end)
 end_short n = within 30 (both (whole (codes "end:\n")) (both (whole (codes "  ")) (both (both (whole (codes "ret i32 ")) zero_short) (whole (codes "\n"))))) (omega arith)
 
-entry_short : (n : ℕ) → n ≤ 10000 → Short 150 (block_text (workload_program n) (main_function n) (main_function n).vars entry)
+entry_short : (n : ℕ) → n ≤ 10000 → Short 200 (block_text (workload_program n) (main_function n) (main_function n).vars entry)
 entry_short n le =
     let m = workload_program n in
     let f = main_function n in
     let stored = both (whole (codes "store i32 ")) (both zero_short (whole (codes ", ptr %a"))) in
     let one = line_short m f entry (store (Const 0) work.a) (whole []) stored in
-    within 150 (both (whole (codes "entry:\n  %a = alloca i32\n  %t = alloca i32\n")) (both (both one (whole [])) (jump_short n entry 1 le refl))) (omega arith)
+    within 200 (both (whole (codes "entry:\n  %a = alloca i32\n  %t = alloca i32\n")) (both (both one (whole [])) (jump_short n entry 1 le refl))) (omega arith)
 
 -- ---- the text of the module
 
-tail_short : (n a k : ℕ) → n ≤ 10000 → a + k ≤ 10000 → Short (600 * k + 30) (flat_map (block_text (workload_program n) (main_function n) []) (tail a k))
+tail_short : (n a k : ℕ) → n ≤ 10000 → a + k ≤ 10000 → Short (800 * k + 30) (flat_map (block_text (workload_program n) (main_function n) []) (tail a k))
 tail_short n a zero le few = both (end_short n) (whole [])
 tail_short n a (suc k) le few =
     let lt : a < 10 ^ 5 = omega arith in
-    within (600 * suc k + 30) (both (start_short n a le lt) (both (left_short n a le lt) (both (right_short n a le lt) (both (join_short n a le lt) (tail_short n (a + 1) k le (omega arith)))))) (omega arith)
+    within (800 * suc k + 30) (both (start_short n a le lt) (both (left_short n a le lt) (both (right_short n a le lt) (both (join_short n a le lt) (tail_short n (a + 1) k le (omega arith)))))) (omega arith)
 
 pub module_short : (n : ℕ) → n ≤ 10000 → length (text_of (workload_program n)) ≤ 2 ^ 26
 module_short n le =
