@@ -33,12 +33,12 @@ room_for_one tallies n i tally lt read small =
 pub all_added : (tallies : List Tally) (i : ℕ) (totals : Totals) → length tallies ≤ i → totals ≡ totals_in (take i tallies) → totals ≡ totals_in tallies
 all_added tallies i totals past is = is ∙ ap totals_in (take_all i tallies past)
 
--- fewer than 2^20 tallies with n at most
-pub small_totals : (tallies : List Tally) (n : ℕ) → 1 ≤ n → AreLight n tallies → AreAtMost (2 ^ 20 * n) (totals_in tallies)
+-- fewer than 2^32 tallies with n at most
+pub small_totals : (tallies : List Tally) (n : ℕ) → 1 ≤ n → AreLight n tallies → AreAtMost (2 ^ 32 * n) (totals_in tallies)
 small_totals tallies n one light =
-    let many : length tallies * n ≤ 2 ^ 20 * n = mul-le-mul_right n (omega (arith, light.few)) in
-    let few : length tallies ≤ 2 ^ 20 * n = omega (arith, light.few, one) in
-    let each : (part : Tally → ℕ) → All (λ tally. part tally ≤ n) tallies → sum_by part tallies ≤ 2 ^ 20 * n = λ part below. omega (arith, sum_by-le part n tallies below, many) in
+    let many : length tallies * n ≤ 2 ^ 32 * n = mul-le-mul_right n (omega (arith, light.few)) in
+    let few : length tallies ≤ 2 ^ 32 * n = omega (arith, light.few, one) in
+    let each : (part : Tally → ℕ) → All (λ tally. part tally ≤ n) tallies → sum_by part tallies ≤ 2 ^ 32 * n = λ part below. omega (arith, sum_by-le part n tallies below, many) in
     record {
       expressions = few;
       old = each (λ y. y.old) (λ k d lt. (light.each k d lt).old);

@@ -4,7 +4,7 @@ use Rattle.std.specs.Prelude.{slice_get}
 use Rattle.std.specs.List.Sorted.{IsStrictlyIncreasing}
 use Rattle.std.proofs.lemmas.List.Elements.{All-push, All-nil, All-contains, Contains-get_or}
 use Rattle.std.proofs.lemmas.List.{length_push}
-use Rattle.std.proofs.lemmas.Option.{slice_get_within, same_Some, none-some}
+use Rattle.std.proofs.lemmas.Option.{get_or_from_slice_get, same_Some, none-some, slice_get_read}
 use Rattle.ir_types.specs.Program.{Program}
 use Rattle.ir_types.specs.declared.syntax.Function.{Function}
 use Rattle.point_graph.specs.Numbers.{ArePoints}
@@ -14,7 +14,7 @@ use Rattle.expressions.specs.Tables.{IsEventOf, IsTable}
 use Rattle.expressions.specs.declared.syntax.Event.{Event}
 use Rattle.expressions.specs.declared.syntax.Event.TheVariants.{Occurs}
 use Rattle.profile.specs.declared.counts.FnCounts.{FnCounts}
-use Rattle.occurrences.specs.Listed.{ArePlacesOf}
+use Rattle.occurrences.specs.Listed.{AreOccurrences, ArePlacesOf}
 use Rattle.placement.specs.declared.placements.Placement.{Placement}
 use Rattle.placement.specs.Placements.{arcs_of}
 use Rattle.placement.proofs.GraphLemmas.{arcs_length}
@@ -91,6 +91,13 @@ count_kept f counts reached p places before none all =
     ap (λ l. edges_count f counts reached p.edges l + points_count f counts reached p.points before.kept) none
     ∙ ap (λ l. 0 + points_count f counts reached p.points l) all
     ∙ zero-add (points_count f counts reached p.points places)
+
+-- the listed places of an expression
+pub listed_at : (t : Kept) (lists : List (List ℕ)) → AreOccurrences t lists → (x : ℕ) (own : List ℕ) → x < length t.exprs → own ≡ get_or lists x own → ArePlacesOf t.occurring x own
+listed_at t lists are x own known read =
+    let inside : x < length lists = omega (arith, known, are.count) in
+    let there : slice_get lists x ≡ Some own = slice_get_read lists (length lists) x own refl inside read in
+    subst (ArePlacesOf t.occurring x) (get_or_from_slice_get lists x own [] there) (are.each x known)
 
 -- ---- one tally after another
 

@@ -31,7 +31,7 @@ get_last (z ∷ xs) y = get_last xs y
 
 -- how much the sums over n functions are at most
 abbrev pub bound : List FnCounts → ℕ → ℕ
-bound counts n = 2 ^ 40 * (sum_by total (take n counts) + n)
+bound counts n = 2 ^ 52 * (sum_by total (take n counts) + n)
 
 -- the tallies of the first n functions, with their sums
 pub record TalliedSoFar (m : Program) (counts : List FnCounts) (placements : List (List Placement)) (n : ℕ) (tallies : List (List Tally)) (totals : Totals) : Type 0 where
@@ -84,19 +84,22 @@ module _ (m : Program) (counts : List FnCounts) (placements : List (List Placeme
             subst (AreFittingIn m f) (same_Some has.placed placed (sym has.there ∙ placed_there)) has.holds
 
         module _ (last : List Tally) (is : AreTalliesIn m f own placed last) (light : AreLight (2 ^ 20 * (total own + 1)) last) where
-          pub small_last : AreAtMost (2 ^ 40 * (total own + 1)) (totals_in last)
-          small_last = at_most (totals_in last) (2 ^ 20 * (2 ^ 20 * (total own + 1))) (2 ^ 40 * (total own + 1)) (omega arith) (small_totals last (2 ^ 20 * (total own + 1)) (omega arith) light)
+          small_last : AreAtMost (2 ^ 52 * (total own + 1)) (totals_in last)
+          small_last = at_most (totals_in last) (2 ^ 32 * (2 ^ 20 * (total own + 1))) (2 ^ 52 * (total own + 1)) (omega arith) (small_totals last (2 ^ 20 * (total own + 1)) (omega arith) light)
 
-          next_bound : bound counts (length tallies) + 2 ^ 40 * (total own + 1) ≡ bound counts (length tallies + 1)
+          next_bound : bound counts (length tallies) + 2 ^ 52 * (total own + 1) ≡ bound counts (length tallies + 1)
           next_bound =
               let more : sum_by total (take (length tallies + 1) counts) ≡ sum_by total (take (length tallies) counts) + total (get_or counts (length tallies) own) = sum_by_more total counts (length tallies) own counts_inside in
               let same : total own ≡ total (get_or counts (length tallies) own) = ap total read in
               omega (arith, more, same)
 
-          pub small_next : AreAtMost (bound counts (length tallies + 1)) (plus totals (totals_in last))
-          small_next = subst (λ k. AreAtMost k (plus totals (totals_in last))) next_bound (together totals (totals_in last) (bound counts (length tallies)) (2 ^ 40 * (total own + 1)) are.small small_last)
+          small_next : AreAtMost (bound counts (length tallies + 1)) (plus totals (totals_in last))
+          small_next = subst (λ k. AreAtMost k (plus totals (totals_in last))) next_bound (together totals (totals_in last) (bound counts (length tallies)) (2 ^ 52 * (total own + 1)) are.small small_last)
 
           -- so the sums fit
+          pub room_last : AreAtMost (2 ^ 128 - 1) (totals_in last)
+          room_last = at_most (totals_in last) (2 ^ 52 * (total own + 1)) (2 ^ 128 - 1) (omega (arith, next_good.small)) small_last
+
           pub room : length tallies < 2 ^ 64 → AreAtMost (2 ^ 128 - 1) (plus totals (totals_in last))
           room few = at_most (plus totals (totals_in last)) (bound counts (length tallies + 1)) (2 ^ 128 - 1) (omega (arith, few, accepted.total, sum_by-take-le total counts (length tallies + 1))) small_next
 

@@ -26,7 +26,7 @@ pub record IsInRange (p : Points) (placement : Placement) : Type 0 where
 abbrev pub IsLight : ℕ → Tally → Type 0
 IsLight n tally = AreAtMost n (one_tally tally)
 
--- fewer than 2^20 of these
+-- fewer than 2^32 of these
 pub record AreLight (n : ℕ) (tallies : List Tally) : Type 0 where
-  pub few : length tallies < 2 ^ 20
+  pub few : length tallies < 2 ^ 32
   pub each : All (IsLight n) tallies

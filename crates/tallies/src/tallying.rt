@@ -99,6 +99,34 @@ fn tallies_in(
     )
 }
 
+/// The tallies of each function that has blocks, with their sums.
+fn each_function(
+    alloc: Global,
+    program: &Module<'_>,
+    counts: &[FnCounts],
+    placements: &[Items<Placement>],
+) -> Result<Tallied, NoMemory>
+    requires limits { All IsWithinLimits program.now.functions }
+    requires counts { IsAccepted program.now counts.now }
+    requires placements { AreFitting program.now placements.now }
+    ensures tallies { IfOk result (λ found. AreTallies program.now counts.now placements.now found.functions.items) }
+    ensures totals { IfOk result (λ found. found.totals ≡ totals_of found.functions.items) }
+{
+    let mut functions = Vec::new(alloc);
+    let mut totals = Totals::none();
+    for function in program.functions() {
+        if is_defined(function) {
+            let place = functions.len();
+            let own = &counts[place];
+            let placed = placements[place].as_slice();
+            let tallies = tallies_in(alloc, program, function, own, placed)?;
+            totals = totals.plus(Totals::over(&tallies));
+            functions.push(Items::from(tallies))?;
+        }
+    }
+    Ok(Tallied { functions, totals })
+}
+
 /// What placements cost and save by the counts of a profile: for each function that has blocks a tally for each of its
 /// expressions, and the sums. It takes linear time. `NoMemory` where an allocation was refused.
 pub fn tallies(
@@ -113,22 +141,5 @@ pub fn tallies(
     ensures tallies { IfOk result (λ found. AreTallies program.now profile.now.functions placements.now found.functions.items) }
     ensures totals { IfOk result (λ found. found.totals ≡ totals_of found.functions.items) }
 {
-    let counts = profile.functions.as_slice();
-    let mut functions = Vec::new(alloc);
-    let mut totals = Totals::none();
-    for function in program.functions() {
-        if is_defined(function) {
-            let place = functions.len();
-            let own = tallies_in(
-                alloc,
-                program,
-                function,
-                &counts[place],
-                placements[place].as_slice(),
-            )?;
-            totals = totals.plus(Totals::over(&own));
-            functions.push(Items::from(own))?;
-        }
-    }
-    Ok(Tallied { functions, totals })
+    each_function(alloc, program, profile.functions.as_slice(), placements)
 }

@@ -11,9 +11,6 @@ pub profiled-requires-clause-placement : goal.profiled-requires-clause-placement
 profiled-requires-clause-placement c =
     all_in_range c.args.function.now c.args.points.now c.args.table.now c.requires.table c.args.e c.args.occurrences.now c.requires.occurrences c.in_ok-before.before c.in_ok-before.ensures.inserted c.in_ok-before.ensures.kept
 
-pub profiled-2-requires-clause-placement : goal.profiled-2-requires-clause-placement
-profiled-2-requires-clause-placement c = in_range c.args.function.now c.args.points.now c.args.table.now c.args.e c.args.placement.now c.requires.placement
-
 pub overflow_sub-result : goal.overflow_sub-result
 overflow_sub-result c =
     omega (arith, c.len-3.ensures, kept_few c.args.function.now c.args.points.now c.args.table.now c.requires.table c.args.e c.args.occurrences.now c.requires.occurrences c.args.placement.now c.requires.placement)
