@@ -1,10 +1,9 @@
 -- The names of the function can be spelled, and differ: each tells its place.
-use Rattle.std.proofs.Common.{◌≡◌, ◌≢◌, ℕ, zero, suc, ◌+◌, ◌*◌, ◌^◌, ◌<◌, ◌==◌, ◌&&◌, Bool, true, false, cond, if◌then◌else◌, List, [], ◌∷◌, ◌++◌, Option, None, Some, length, map, get_or, All, refl, sym, ap, ◌∙◌, arith}
+use Rattle.std.proofs.Common.{◌≡◌, ◌≢◌, ℕ, zero, suc, ◌+◌, ◌*◌, ◌^◌, ◌<◌, ◌==◌, true, false, if◌then◌else◌, List, [], ◌∷◌, ◌++◌, Option, None, Some, length, map, get_or, All, refl, sym, ap, ◌∙◌, arith}
 use Rattle.std.specs.Prelude.{AllPairs, codes}
 use Rattle.std.specs.Fmt.{decimal}
-use Rattle.std.specs.List.{range_with_len, list_all, AllByRecursion, prefix_len}
-use Rattle.std.specs.Str.Parse.{digits_value}
-use Rattle.std.proofs.lemmas.List.{get_or-map, length-map, length-append}
+use Rattle.std.specs.List.{range_with_len, list_all, AllByRecursion}
+use Rattle.std.proofs.lemmas.List.{get_or-map, length-map}
 use Rattle.std.proofs.lemmas.List.Folds.{list_all-append}
 use Rattle.std.proofs.lemmas.List.FromFn.{length-range_with_len, get_or-range_with_len}
 use Rattle.std.proofs.lemmas.List.Elements.{All-from_recursion}
@@ -13,8 +12,8 @@ use Rattle.ir_types.specs.Names.{spelled, IsNameText, IsSpellable}
 use Rattle.ir_types.specs.WellFormed.{names, block_names, CountFrom}
 use Rattle.ir_types.specs.declared.name.Name.{Name}
 use Rattle.ir_types.specs.declared.name.Name.TheVariants.{Text, Number, Made}
-use Rattle.ir_types.proofs.Decimals.{decimal_some, decimal_quotable}
-use Rattle.profile.specs.Forms.{is_numeral, number_of, front_digits, front_number}
+use Rattle.ir_types.proofs.Decimals.{decimal_quotable}
+use Rattle.profile.specs.Forms.{number_of, front_digits, front_number}
 use Rattle.profile.proofs.Fronts.{front_decimal}
 use Rattle.workload.specs.Workload.{main_function}
 use Rattle.workload.proofs.Tails.{tail}

@@ -1,15 +1,14 @@
 -- The counts are accepted: round by round as much leaves as enters.
-use Rattle.std.proofs.Common.{◌≡◌, ◌≢◌, ℕ, zero, suc, ◌+◌, ◌-◌, ◌*◌, ◌%◌, ◌^◌, ◌<◌, ◌≤◌, ◌==◌, ◌&&◌, not, Bool, true, false, cond, List, [], ◌∷◌, Some, length, sum, sum_by, slice_get, refl, sym, ap, subst, ◌∙◌, arith, inl, inr}
+use Rattle.std.proofs.Common.{◌≡◌, ◌≢◌, ℕ, zero, suc, ◌+◌, ◌-◌, ◌*◌, ◌<◌, ◌≤◌, ◌==◌, ◌&&◌, not, Bool, true, false, cond, List, ◌∷◌, length, sum, sum_by, refl, sym, ap, ◌∙◌, arith, inl, inr}
 use Rattle.std.specs.Option.{option_map_or}
 use Rattle.ir_types.specs.declared.syntax.Block.{Block}
 use Rattle.std.specs.List.{flat_map, range_with_len, zip}
 use Rattle.std.proofs.lemmas.Bool.{cases_eq, cases_lt, false≢true}
 use Rattle.std.proofs.lemmas.List.Sums.{sum_by-cons}
 use Rattle.flow_graph.specs.Slots.{slots_from}
-use Rattle.flow_graph.specs.Paths.{IsReached, AreReached}
-use Rattle.profile.specs.Counts.{HasSlots, IsBalanced, IsUnreachedZero, IsAccepted, AreCounts, goes_on, is_return, total}
-use Rattle.workload.specs.Workload.{end, entry, left_count, round_counts, main_function, main_counts, workload_program, workload_counts}
-use Rattle.workload.proofs.Tails.{tail, length_tail}
+use Rattle.profile.specs.Counts.{HasSlots, IsBalanced, IsUnreachedZero, IsAccepted, goes_on, is_return}
+use Rattle.workload.specs.Workload.{left_count, round_counts, main_function, main_counts, workload_program, workload_counts}
+use Rattle.workload.proofs.Tails.{tail}
 use Rattle.workload.proofs.Reaching.{all_met, at_end}
 
 -- ---- the slots with their counts

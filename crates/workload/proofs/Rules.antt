@@ -1,16 +1,14 @@
 -- The module keeps the rules and the limits.
-use Rattle.std.proofs.Common.{◌≡◌, ◌≢◌, ℕ, zero, suc, ◌+◌, ◌*◌, ◌^◌, ◌<◌, ◌≤◌, List, [], ◌∷◌, Some, None, length, map, take, slice_get, All, refl, ap, subst, arith}
-use Rattle.std.specs.Prelude.{AllPairs, IsSomeAnd, codes}
+use Rattle.std.proofs.Common.{◌≡◌, ◌≢◌, ℕ, zero, suc, ◌+◌, ◌*◌, ◌<◌, ◌≤◌, List, [], ◌∷◌, Some, length, take, slice_get, All, refl, subst, arith}
+use Rattle.std.specs.Prelude.{AllPairs, codes}
 use Rattle.std.specs.List.{AllByRecursion}
 use Rattle.std.proofs.lemmas.List.Elements.{All-from_recursion}
 use Rattle.std.proofs.lemmas.List.Sums.{sum_by-cons}
-use Rattle.mc_num.specs.declared.op.Width.{Width}
 use Rattle.mc_num.specs.declared.op.Width.TheVariants.{I32}
 use Rattle.ir_types.specs.Limits.{IsWithinLimits, slot_count}
-use Rattle.ir_types.specs.WellFormed.{IsWellFormed, IsFunctionIn, IsBlockIn, IsGlobal, Fits, HasWidth, IsNamed, Scope, Signature, scope, targets, variable_width, symbols, item_limit}
+use Rattle.ir_types.specs.WellFormed.{IsWellFormed, IsFunctionIn, IsBlockIn, IsGlobal, Fits, IsNamed, Scope, Signature, scope, variable_width}
 use Rattle.ir_types.specs.declared.name.Name.TheVariants.{Text}
 use Rattle.ir_types.specs.declared.syntax.Block.{Block}
-use Rattle.ir_types.specs.declared.syntax.Function.{Function}
 use Rattle.ir_types.specs.declared.syntax.Instr.{Instr}
 use Rattle.ir_types.specs.declared.syntax.Operand.TheVariants.{Const, Reg}
 use Rattle.ir_types.specs.declared.syntax.Terminator.TheVariants.{Jump}

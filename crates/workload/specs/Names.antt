@@ -1,8 +1,6 @@
 -- The names of a round.
 use Rattle.std.specs.Prelude.{ℕ, List, [], ◌++◌, codes}
 use Rattle.std.specs.Fmt.{decimal}
-use Rattle.ir_types.specs.declared.name.Name.{Name}
-use Rattle.ir_types.specs.declared.name.Name.TheVariants.{Text}
 use Rattle.workload.specs.declared.naming.RoundNames.{RoundNames}
 
 -- a letter, the number of the round, and what stands behind: nothing for a block, a dot and a letter for a result in it

@@ -6,7 +6,6 @@ use Rattle.mc_num.specs.declared.op.Bin.TheVariants.{Add}
 use Rattle.mc_num.specs.declared.op.Pred.TheVariants.{Slt}
 use Rattle.mc_num.specs.declared.op.Op.TheVariants.{Bin, Icmp}
 use Rattle.ir_types.specs.Program.{Program}
-use Rattle.ir_types.specs.declared.name.Name.{Name}
 use Rattle.ir_types.specs.declared.name.Name.TheVariants.{Text}
 use Rattle.ir_types.specs.declared.syntax.Operand.{Operand}
 use Rattle.ir_types.specs.declared.syntax.Operand.TheVariants.{Const, Reg}

@@ -1,5 +1,3 @@
-use Rattle.std.proofs.Common.{ℕ, ◌≤◌}
-use Rattle.workload.specs.Sound.{IsSound}
 use Rattle.workload.proofs.Rules.{keeps_rules, keeps_limits}
 use Rattle.workload.proofs.Kept.{accepted}
 use Rattle.workload.proofs.laws.workloads_are_sound.Goals as goal
