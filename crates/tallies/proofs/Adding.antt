@@ -1,11 +1,11 @@
 -- Sums of tallies, as lists of them grow.
-use Rattle.std.proofs.Common.{◌≡◌, ◌<◌, ◌≤◌, ◌+◌, ◌*◌, ◌-◌, ◌^◌, ℕ, List, [], ◌∷◌, ◌++◌, All, length, take, get_or, sum_by, refl, sym, ap, ◌∙◌, subst, arith}
+use Rattle.std.proofs.Common.{◌≡◌, ◌<◌, ◌≤◌, ◌+◌, ◌*◌, ◌^◌, ℕ, List, [], ◌∷◌, ◌++◌, All, length, take, get_or, sum_by, refl, sym, ap, ◌∙◌, subst, arith}
 use Rattle.std.proofs.lemmas.List.{length_push, length-take-le, take_more, take_all}
-use Rattle.std.proofs.lemmas.List.Sums.{sum_by_push, sum_by_more, sum_by_more_le, sum_by-le}
+use Rattle.std.proofs.lemmas.List.Sums.{sum_by_push, sum_by_more_le, sum_by-le}
 use Rattle.std.proofs.Math.Nat.{mul-le-mul_right}
 use Rattle.tallies.specs.Sums.{AreAtMost, no_totals, one_tally, plus, totals_in}
-use Rattle.tallies.specs.Steps.{AreLight, IsLight}
-use Rattle.tallies.specs.Tallies.{totals_of, total_of}
+use Rattle.tallies.specs.Steps.{AreLight}
+use Rattle.tallies.specs.Tallies.{totals_of}
 use Rattle.tallies.specs.declared.tally.Tally.{Tally}
 use Rattle.tallies.specs.declared.totals.Totals.{Totals}
 

@@ -1,8 +1,8 @@
 -- Placements that fit by one numbering of a function fit by each other, and what is tallied of them.
-use Rattle.std.proofs.Common.{◌≡◌, ◌<◌, ◌≤◌, ◌+◌, ◌*◌, ◌^◌, ℕ, zero, suc, Bool, List, [], ◌∷◌, ◌++◌, All, Contains, length, get_or, Some, refl, sym, ap, ◌∙◌, subst, zero-add, arith}
+use Rattle.std.proofs.Common.{◌≡◌, ◌<◌, ◌≤◌, ◌+◌, ◌^◌, ℕ, zero, suc, Bool, List, [], ◌∷◌, ◌++◌, All, length, get_or, Some, refl, sym, ap, ◌∙◌, subst, zero-add, arith}
 use Rattle.std.specs.Prelude.{slice_get}
 use Rattle.std.specs.List.Sorted.{IsStrictlyIncreasing}
-use Rattle.std.proofs.lemmas.List.Elements.{All-push, All-nil, All-contains, Contains-get_or}
+use Rattle.std.proofs.lemmas.List.Elements.{All-push, All-nil, All-contains}
 use Rattle.std.proofs.lemmas.List.{length_push}
 use Rattle.std.proofs.lemmas.Option.{get_or_from_slice_get, same_Some, none-some, slice_get_read}
 use Rattle.ir_types.specs.Program.{Program}
@@ -21,7 +21,7 @@ use Rattle.placement.proofs.GraphLemmas.{arcs_length}
 use Rattle.best_choice.specs.Best.{IsPlacementOn}
 use Rattle.one_transformed.specs.Laws.{OneNumbering}
 use Rattle.one_transformed.specs.Numberings.{AreSame}
-use Rattle.tallies.specs.Steps.{AreLight, IsInRange, IsLight}
+use Rattle.tallies.specs.Steps.{IsInRange, IsLight}
 use Rattle.tallies.specs.Tallies.{AreFittingBy, AreFittingIn, AreTalliesBy, IsFitting, IsTally, count_of, edges_count, points_count}
 use Rattle.tallies.specs.declared.tally.Tally.{Tally}
 use Rattle.tallies.proofs.Members.{no_longer}

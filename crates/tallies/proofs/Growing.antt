@@ -17,7 +17,7 @@ use Rattle.tallies.specs.Sums.{AreAtMost, no_totals, plus, totals_in}
 use Rattle.tallies.specs.Tallies.{AreFitting, AreFittingIn, AreTallies, AreTalliesIn, HasTallies, totals_of}
 use Rattle.tallies.specs.declared.tally.Tally.{Tally}
 use Rattle.tallies.specs.declared.totals.Totals.{Totals}
-use Rattle.tallies.proofs.Adding.{at_most, function_more, no_functions, small_totals, together}
+use Rattle.tallies.proofs.Adding.{at_most, function_more, small_totals, together}
 use Rattle.tallies.proofs.OwnCounts.{own_counts}
 
 get_grown : {X : Type 0} (xs : List X) (y : X) (k : ℕ) (x : X) → slice_get xs k ≡ Some x → slice_get (xs ++ y ∷ []) k ≡ Some x

@@ -1,12 +1,11 @@
 -- The tallies of placements are determined.
-use Rattle.std.proofs.Common.{◌≡◌, ◌<◌, ◌≤◌, ◌+◌, ◌↔◌, ℕ, zero, suc, Bool, true, false, List, [], ◌∷◌, length, Option, Some, Contains, refl, sym, ap, ap₂, ◌∙◌, subst, arith}
+use Rattle.std.proofs.Common.{◌≡◌, ◌<◌, ◌+◌, ℕ, zero, suc, Bool, true, false, List, [], ◌∷◌, length, Some, refl, sym, ap, ◌∙◌, subst, arith}
 use Rattle.std.specs.Prelude.{slice_get}
-use Rattle.std.proofs.lemmas.Option.{slice_get_within, same_Some, none-some}
+use Rattle.std.proofs.lemmas.Option.{slice_get_within, same_Some}
 use Rattle.ir_types.specs.Program.{Program}
 use Rattle.ir_types.specs.declared.syntax.Function.{Function}
 use Rattle.ir_machine.specs.Same.{is_defined}
 use Rattle.flow_graph.specs.Paths.{AreReached}
-use Rattle.point_graph.specs.Numbers.{ArePoints}
 use Rattle.point_graph.specs.declared.graph.Points.{Points}
 use Rattle.expressions.specs.Expressions.{expr_traps}
 use Rattle.expressions.specs.Kept.{Kept}
@@ -19,7 +18,7 @@ use Rattle.transform.proofs.Alone.{defined_length}
 use Rattle.transform.specs.Transformed.{defined_before}
 use Rattle.one_transformed.specs.Laws.{OneNumbering}
 use Rattle.one_transformed.specs.Numberings.{AreSame}
-use Rattle.tallies.specs.Tallies.{AreTallies, AreTalliesIn, AreWhereOccurs, IsTally, count_of, edges_count, points_count}
+use Rattle.tallies.specs.Tallies.{AreTallies, AreTalliesIn, IsTally, count_of, edges_count, points_count}
 use Rattle.tallies.specs.declared.tally.Tally.{Tally}
 use Rattle.tallies.proofs.OwnCounts.{before_declared, before_defined}
 

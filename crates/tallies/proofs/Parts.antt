@@ -1,5 +1,5 @@
 -- The profiled part of a cost is the sum of the counts of its places.
-use Rattle.std.proofs.Common.{◌≡◌, ◌<◌, ◌≤◌, ◌+◌, ◌*◌, ◌/◌, ◌^◌, ◌==◌, ◌&&◌, ℕ, zero, suc, Bool, true, false, if◌then◌else◌, List, [], ◌∷◌, Option, Some, None, All, length, get_or, slice_get, sum, sum_by, refl, sym, ap, ap₂, ◌∙◌, subst, ⊎_elim, arith}
+use Rattle.std.proofs.Common.{◌≡◌, ◌<◌, ◌≤◌, ◌+◌, ◌*◌, ◌/◌, ◌^◌, ◌==◌, ◌&&◌, ℕ, zero, suc, Bool, true, false, if◌then◌else◌, List, [], ◌∷◌, Option, Some, None, All, length, get_or, slice_get, sum, sum_by, refl, ap, ◌∙◌, ⊎_elim, arith}
 use Rattle.std.specs.List.{zip}
 use Rattle.std.specs.List.Sorted.{IsStrictlyIncreasing}
 use Rattle.std.specs.Option.{option_map_or}
@@ -10,7 +10,6 @@ use Rattle.std.proofs.lemmas.List.Sums.{sum_by-cons, sum_by-le, sum_by-le-sum_by
 use Rattle.std.proofs.Math.Nat.{mul-le-mul_right}
 use Rattle.ir_types.specs.declared.syntax.Function.{Function}
 use Rattle.flow_graph.specs.Slots.{slots}
-use Rattle.flow_graph.specs.Paths.{AreReached}
 use Rattle.point_graph.specs.Numbers.{ArePoints}
 use Rattle.point_graph.specs.declared.graph.Point.{Point}
 use Rattle.point_graph.specs.declared.graph.Point.TheVariants as points

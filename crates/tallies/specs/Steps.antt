@@ -1,5 +1,5 @@
 -- What the tallies of one function stand on.
-use Rattle.std.specs.Prelude.{◌<◌, ◌≤◌, ◌^◌, ℕ, List, All, length}
+use Rattle.std.specs.Prelude.{◌<◌, ◌^◌, ℕ, List, All, length}
 use Rattle.std.specs.List.Sorted.{IsStrictlyIncreasing}
 use Rattle.ir_types.specs.declared.syntax.Function.{Function}
 use Rattle.point_graph.specs.declared.graph.Points.{Points}

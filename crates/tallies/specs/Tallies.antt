@@ -1,5 +1,5 @@
 -- What placements cost and save, expression by expression.
-use Rattle.std.specs.Prelude.{◌≡◌, ◌↔◌, ◌<◌, ◌+◌, ◌/◌, ℕ, Bool, true, List, Some, All, Contains, length, slice_get, sum_by}
+use Rattle.std.specs.Prelude.{◌≡◌, ◌↔◌, ◌+◌, ◌/◌, ℕ, Bool, true, List, Some, Contains, length, slice_get, sum_by}
 use Rattle.std.specs.List.Sorted.{IsStrictlyIncreasing}
 use Rattle.std.specs.Option.{option_map_or}
 use Rattle.ir_types.specs.Program.{Program}

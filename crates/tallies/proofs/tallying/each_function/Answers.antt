@@ -2,7 +2,6 @@ use Rattle.std.proofs.Common.{◌≡◌, ◌<◌, ◌≤◌, ◌^◌, ◌∙◌,
 use Rattle.std.specs.Prelude.{slice_get}
 use Rattle.std.proofs.lemmas.Option.{slice_get_read}
 use Rattle.tallies.specs.Sums.{plus, totals_in}
-use Rattle.tallies.specs.Tallies.{AreFittingIn}
 use Rattle.tallies.proofs.Growing.{all_tallied, counts_inside, next_fits, next_good, none_more_tallied, nothing_tallied, one_more_tallied, placed_inside, room, room_last}
 use Rattle.tallies.proofs.tallying.each_function.Goals as goal
 use Rattle.tallies.proofs.tallying.each_function.Goals.{then-is_defined+in_ok-tallies+in_ok-push, else-is_defined}
