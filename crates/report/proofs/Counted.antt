@@ -1,5 +1,5 @@
 -- There are as many tallies as functions that have blocks.
-use Rattle.std.proofs.Common.{◌≡◌, ℕ, ◌+◌, not, cond, true, false, Bool, List, [], ◌∷◌, length, take, refl, ap, sym, ◌∙◌, ◌≤◌, arith}
+use Rattle.std.proofs.Common.{◌≡◌, ℕ, ◌+◌, not, cond, Bool, List, [], ◌∷◌, length, take, refl, ap, sym, ◌∙◌, arith}
 use Rattle.std.specs.Prelude.{filter, count_by}
 use Rattle.std.proofs.lemmas.List.{take_all}
 use Rattle.std.proofs.lemmas.List.Sums.{length-filter, sum_by-cons}
