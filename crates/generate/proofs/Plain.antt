@@ -1,11 +1,8 @@
 -- The names of a workload are texts, so it is what is read back.
-use Rattle.std.proofs.Common.{◌≡◌, ℕ, zero, suc, ◌+◌, List, [], ◌∷◌, Some, map, refl, ap, subst, ◌∙◌}
-use Rattle.std.specs.Prelude.{codes}
-use Rattle.mc_num.specs.declared.op.Width.TheVariants.{I32}
+use Rattle.std.proofs.Common.{◌≡◌, ℕ, zero, suc, ◌+◌, List, [], ◌∷◌, map, refl, ap}
 use Rattle.ir_types.specs.Program.{Program}
 use Rattle.ir_types.specs.Same.{plain, plain_block}
 use Rattle.ir_types.specs.declared.syntax.Block.{Block}
-use Rattle.ir_types.specs.declared.syntax.Function.{Function}
 use Rattle.workload.specs.Workload.{start, left, right, join, entry, main_function, workload_program}
 use Rattle.workload.proofs.Tails.{tail}
 

@@ -1,22 +1,17 @@
 -- How long the texts of a workload are at most.
-use Rattle.std.proofs.Common.{◌≡◌, ℕ, zero, suc, ◌+◌, ◌-◌, ◌*◌, ◌%◌, ◌^◌, ◌<◌, ◌≤◌, Bool, true, false, cond, List, [], ◌∷◌, ◌++◌, Option, Some, None, length, map, slice_get, refl, sym, ap, subst, ◌∙◌, arith, pos}
+use Rattle.std.proofs.Common.{◌≡◌, ℕ, zero, suc, ◌+◌, ◌-◌, ◌*◌, ◌%◌, ◌^◌, ◌<◌, ◌≤◌, Bool, true, false, cond, List, [], ◌∷◌, ◌++◌, Some, length, slice_get, refl, sym, subst, arith}
 use Rattle.std.specs.Prelude.{codes}
-use Rattle.std.specs.Fmt.{decimal, signed_decimal}
+use Rattle.std.specs.Fmt.{decimal}
 use Rattle.std.specs.List.{flat_map, range_with_len, AllByRecursion}
 use Rattle.std.specs.Option.{option_map_or}
 use Rattle.std.proofs.lemmas.Bool.{lt-ltb}
 use Rattle.std.proofs.lemmas.Fmt.{length-decimal-le, decimal_digit}
 use Rattle.std.proofs.lemmas.List.{length-append, append-nil}
-use Rattle.std.proofs.lemmas.List.Concat.{flat_map-append}
-use Rattle.mc_num.specs.declared.op.Width.{Width}
-use Rattle.mc_num.specs.declared.op.Width.TheVariants.{I1, I32}
-use Rattle.ir_types.specs.Names.{quoted_text, name_text}
+use Rattle.mc_num.specs.declared.op.Width.TheVariants.{I32}
+use Rattle.ir_types.specs.Names.{quoted_text}
 use Rattle.ir_types.specs.Bytes.{is_plain_name}
 use Rattle.ir_types.specs.Program.{Program}
-use Rattle.ir_types.specs.TreeOf.{signed}
-use Rattle.ir_types.specs.declared.name.Name.{Name}
 use Rattle.ir_types.specs.declared.name.Name.TheVariants.{Text}
-use Rattle.ir_types.specs.declared.syntax.Operand.{Operand}
 use Rattle.ir_types.specs.declared.syntax.Operand.TheVariants.{Const, Reg}
 use Rattle.ir_types.specs.declared.syntax.Kind.TheVariants.{Store}
 use Rattle.ir_types.specs.declared.syntax.Terminator.TheVariants.{Jump}
@@ -24,7 +19,7 @@ use Rattle.ir_types.specs.declared.syntax.Variable.{Variable}
 use Rattle.ir_types.specs.declared.syntax.Instr.{Instr}
 use Rattle.ir_types.specs.declared.syntax.Block.{Block}
 use Rattle.ir_types.specs.declared.syntax.Function.{Function}
-use Rattle.ir_printer.specs.Text.{width_text, local_text, constant_text, value_text, typed_text, variable_type, variable_text, label_text, operands_text, kind_text, instr_line, result_text, term_text, term_line, block_text, blocks_text, function_text, text_of}
+use Rattle.ir_printer.specs.Text.{local_text, constant_text, label_text, kind_text, instr_line, result_text, term_text, term_line, block_text, text_of}
 use Rattle.profile.specs.declared.lines.Line.{Line}
 use Rattle.profile.specs.declared.lines.Line.TheVariants as lines
 use Rattle.profile.specs.Text.{line_text, block_lines, prof_text}
@@ -71,10 +66,16 @@ names_short : (a k : ℕ) → a + k ≤ 10000 → AllByRecursion (λ (b : Block)
 names_short a zero le = (record { le = omega arith }, tt)
 names_short a (suc k) le = (
   local_short 115 a [] (omega arith) (omega arith),
-  (local_short 108 a [] (omega arith) (omega arith),
-  (local_short 114 a [] (omega arith) (omega arith),
-  (local_short 106 a [] (omega arith) (omega arith),
-  names_short (a + 1) k (omega arith))))
+  (
+    local_short 108 a [] (omega arith) (omega arith),
+    (
+      local_short 114 a [] (omega arith) (omega arith),
+      (
+        local_short 106 a [] (omega arith) (omega arith),
+        names_short (a + 1) k (omega arith),
+      ),
+    ),
+  ),
 )
 
 found_short : (blocks : List Block) (t : ℕ) → AllByRecursion (λ (b : Block). Short 11 (local_text b.name)) blocks → Short 11 (option_map_or (λ (b : Block). local_text b.name) (slice_get blocks t) [])
@@ -196,13 +197,13 @@ lines_short b a (suc k) few =
     let l : left_count a < 10 ^ 5 = omega arith in
     let r : 100 - left_count a < 10 ^ 5 = omega arith in
     within (78 * suc k + 12) (
-      both (line_of_two b (left_count a) (100 - left_count a) (omega arith) l r) (
-        both (line_of_one (b + 1) (left_count a) (omega arith) l) (
-          both (line_of_one (b + 1 + 1) (100 - left_count a) (omega arith) r) (
-            both (line_of_one (b + 1 + 1 + 1) 100 (omega arith) (omega arith)) (lines_short (b + 1 + 1 + 1 + 1) (a + 1) k (omega arith))
-          )
-        )
-      )
+    both (line_of_two b (left_count a) (100 - left_count a) (omega arith) l r) (
+    both (line_of_one (b + 1) (left_count a) (omega arith) l) (
+    both (line_of_one (b + 1 + 1) (100 - left_count a) (omega arith) r) (
+    both (line_of_one (b + 1 + 1 + 1) 100 (omega arith) (omega arith)) (lines_short (b + 1 + 1 + 1 + 1) (a + 1) k (omega arith))
+    )
+    )
+    )
     ) (omega arith)
 
 pub profile_short : (n : ℕ) → n ≤ 10000 → length (prof_text (workload_program n) (workload_counts n)) ≤ 2 ^ 26

@@ -1,4 +1,4 @@
-use Rattle.std.proofs.Common.{ℕ, ◌≤◌, subst, ◌∙◌}
+use Rattle.std.proofs.Common.{subst, ◌∙◌}
 use Rattle.ir_printer.specs.Text.{text_of}
 use Rattle.ir_reader.specs.Reading.{Reads}
 use Rattle.workload.specs.Workload.{workload_program, workload_counts}
