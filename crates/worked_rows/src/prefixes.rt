@@ -81,15 +81,16 @@ fn prefixes_of_bytes(alloc: Global, text: &str) -> Result<Tally, Problem> {
     Ok(tally)
 }
 
-/// All prefixes of the text `sum`, the whole one among them, which is printed with and without its last line feed.
+/// All prefixes of the text `sum`, of which the whole and the one without its last line feed are printed.
 fn prefixes_of_sum(alloc: Global, text: &[u8]) -> Result<Tally, Problem> {
     let mut tally = Tally::new();
-    for end in 0..=text.len() {
+    for end in 0..text.len() {
         let (front, back) = text.split_at(end);
         let printed = print(alloc, Vec::from_slice(alloc, front)?)?;
-        let is_accepted = ACCEPTED_OF_SUM.contains(&end) || back.len() <= 1;
+        let is_accepted = ACCEPTED_OF_SUM.contains(&end) || back == b"\n";
         tally.count(printed.status == if is_accepted { 0 } else { 1 });
     }
+    tally.count(print(alloc, Vec::from_slice(alloc, text)?)?.status == 0);
     Ok(tally)
 }
 
