@@ -87,7 +87,7 @@ fn prefixes_of_sum(alloc: Global, text: &[u8]) -> Result<Tally, Problem> {
     for end in 0..text.len() {
         let (front, back) = text.split_at(end);
         let printed = print(alloc, Vec::from_slice(alloc, front)?)?;
-        let is_accepted = ACCEPTED_OF_SUM.contains(&end) || back == b"\n";
+        let is_accepted = ACCEPTED_OF_SUM.contains(&end) || back == b"\n".as_slice();
         tally.count(printed.status == if is_accepted { 0 } else { 1 });
     }
     tally.count(print(alloc, Vec::from_slice(alloc, text)?)?.status == 0);
