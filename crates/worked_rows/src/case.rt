@@ -5,6 +5,9 @@ use mc_host::{FirmSink, FirmSource, MemHost, MemSink, MemSource, Source};
 use std::alloc::{AllocError, Global};
 use top_call::mcpre;
 
+/// How many bytes `out` has room for.
+const ROOM: usize = 4096;
+
 /// A file, by its name.
 #[derive(Drop)]
 pub struct File {
@@ -126,7 +129,7 @@ impl Case {
         let mut host = self.host(alloc)?;
         let bytes = Vec::from_slice(alloc, &self.input)?;
         let mut input = MemSource::new(bytes, self.failing(alloc, "input ")?);
-        let mut out = MemSink::new(alloc, 100, self.failing(alloc, "out ")?)?;
+        let mut out = MemSink::new(alloc, ROOM, self.failing(alloc, "out ")?)?;
         let mut err = MemSink::new(alloc, self.room, Vec::new(alloc))?;
         let status = mcpre(
             alloc,

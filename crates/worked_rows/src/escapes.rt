@@ -43,3 +43,10 @@ pub fn unescaped(alloc: Global, text: &str) -> Result<Vec<u8>, Problem> {
     bytes.extend_from_slice(left.as_bytes())?;
     Ok(bytes)
 }
+
+/// The bytes of lines that stand without their last line feed.
+pub fn bytes_of_lines(alloc: Global, lines: &str) -> Result<Vec<u8>, Problem> {
+    let mut text = String::from_str(alloc, lines)?;
+    text.push_str("\n")?;
+    unescaped(alloc, &text)
+}

@@ -1,18 +1,9 @@
 //! Texts at the limits of a function, and at the limit of a text.
 
+use crate::commands::{Printed, add, print, run};
 use crate::problem::Problem;
 use crate::tally::Tally;
-use mc_host::{FirmSink, FirmSource, MemHost, MemSink};
 use std::alloc::{AllocError, Global};
-use top_call::mcpre;
-
-/// How a command over a text ends: the status, the line, and how many bytes o.ll holds, if it is there.
-#[derive(Drop)]
-pub struct Printed {
-    pub status: u8,
-    pub line: String,
-    pub size: Option<usize>,
-}
 
 /// A function with many times the same at its beginning, which is within the limits with one rest and above them with
 /// another.
@@ -61,38 +52,6 @@ const LIMITS: [Limit; 4] = [
         above: "alloca i1 alloca i1 ret void}",
     },
 ];
-
-/// Runs these words over these files.
-fn run(alloc: Global, words: &[&str], files: Vec<(String, Vec<u8>)>) -> Result<Printed, Problem> {
-    let mut owned = Vec::new(alloc);
-    for word in words {
-        owned.push(String::from_str(alloc, word)?)?;
-    }
-    let mut host = MemHost::new(files, Vec::new(alloc));
-    let mut input = FirmSource::new(Vec::new(alloc));
-    let mut out = FirmSink::new(alloc);
-    let mut err = MemSink::new(alloc, 200, Vec::new(alloc))?;
-    let status = mcpre(alloc, &owned, &mut host, &mut input, &mut out, &mut err);
-    Ok(Printed {
-        status,
-        line: String::from_utf8_lossy(alloc, err.written())?,
-        size: host.file("o.ll").map(|bytes| bytes.len()),
-    })
-}
-
-/// Prints a text into o.ll.
-pub fn print(alloc: Global, text: Vec<u8>) -> Result<Printed, Problem> {
-    let mut files = Vec::new(alloc);
-    files.push((String::from_str(alloc, "a.ll")?, text))?;
-    run(alloc, &["print", "a.ll", "o.ll"], files)
-}
-
-impl Printed {
-    /// Whether it was refused with this line, and wrote nothing.
-    fn is_refused(&self, line: &str) -> bool {
-        self.status == 1 && self.line.as_str() == line && self.size.is_none()
-    }
-}
 
 /// A front, so many times a piece, and a rest.
 fn text_of(
@@ -152,35 +111,55 @@ fn growing_text(alloc: Global) -> Result<Tally, Problem> {
     Ok(tally)
 }
 
-/// How a profile of so many spaces is refused.
-fn blank_profile(alloc: Global, spaces: u32) -> Result<Printed, Problem> {
-    let program = Vec::from_slice(alloc, b"define void @main() { ret void }")?;
+/// How a command refuses a profile of so many spaces.
+fn blank_profile(alloc: Global, words: &[&str], spaces: u32) -> Result<Printed, Problem> {
     let mut files = Vec::new(alloc);
-    files.push((String::from_str(alloc, "a.ll")?, program))?;
+    let program = Vec::from_slice(alloc, b"define void @main() { ret void }")?;
+    add(alloc, &mut files, "a.ll", program)?;
     let profile = text_of(alloc, "", " ", spaces, "")?;
-    files.push((String::from_str(alloc, "a.prof")?, profile))?;
-    run(alloc, &["opt", "a.ll", "a.prof", "o.ll", "c.json"], files)
+    add(alloc, &mut files, "a.prof", profile)?;
+    run(alloc, words, files)
 }
 
 /// A profile has at most as many bytes as a text.
-fn longest_profile(alloc: Global) -> Result<Tally, Problem> {
+fn longest_profile(alloc: Global, words: &[&str]) -> Result<Tally, Problem> {
     let mut tally = Tally::new();
-    let printed = blank_profile(alloc, 1 << 26)?;
+    let printed = blank_profile(alloc, words, 1 << 26)?;
     tally.count(printed.is_refused("mcpre: a.prof:1: P2 Form\n"));
-    let printed = blank_profile(alloc, (1 << 26) + 1)?;
+    let printed = blank_profile(alloc, words, (1 << 26) + 1)?;
     tally.count(printed.is_refused("mcpre: a.prof: P1 TooLong\n"));
+    Ok(tally)
+}
+
+/// How `report` ends over a text of so many spaces.
+fn blank_module(alloc: Global, spaces: u32) -> Result<Printed, Problem> {
+    let mut files = Vec::new(alloc);
+    let program = text_of(alloc, "", " ", spaces, "")?;
+    add(alloc, &mut files, "a.ll", program)?;
+    let profile = Vec::from_slice(alloc, b"mcpre-profile 1\n")?;
+    add(alloc, &mut files, "a.prof", profile)?;
+    run(alloc, &["report", "a.ll", "a.prof"], files)
+}
+
+/// A text that is reported has at most as many bytes as one that is printed.
+fn longest_module(alloc: Global) -> Result<Tally, Problem> {
+    let mut tally = Tally::new();
+    let printed = blank_module(alloc, 1 << 26)?;
+    tally.count(printed.status == 0 && printed.line.is_empty());
+    let printed = blank_module(alloc, (1 << 26) + 1)?;
+    tally.count(printed.is_refused("mcpre: a.ll: E1 TooLong\n"));
     Ok(tally)
 }
 
 /// How `check` ends over an OUT of so many spaces, and a CERT that is none.
 fn blank_text(alloc: Global, spaces: u32) -> Result<Printed, Problem> {
     let mut files = Vec::new(alloc);
-    files.push((String::from_str(alloc, "a.ll")?, Vec::new(alloc)))?;
+    add(alloc, &mut files, "a.ll", Vec::new(alloc))?;
     let profile = Vec::from_slice(alloc, b"mcpre-profile 1\n")?;
-    files.push((String::from_str(alloc, "a.prof")?, profile))?;
+    add(alloc, &mut files, "a.prof", profile)?;
     let text = text_of(alloc, "", " ", spaces, "")?;
-    files.push((String::from_str(alloc, "b.ll")?, text))?;
-    files.push((String::from_str(alloc, "c.json")?, Vec::new(alloc)))?;
+    add(alloc, &mut files, "b.ll", text)?;
+    add(alloc, &mut files, "c.json", Vec::new(alloc))?;
     run(alloc, &["check", "a.ll", "a.prof", "b.ll", "c.json"], files)
 }
 
@@ -196,27 +175,36 @@ fn longest_out(alloc: Global) -> Result<Tally, Problem> {
 
 /// Runs the rows of what is at a limit.
 pub fn run_limits(rt: &HostRuntime, tally: &mut Tally) -> Result<(), Problem> {
+    let alloc = rt.alloc();
     for limit in &LIMITS {
         limit.run(rt, tally)?;
     }
     tally.close(
         rt,
         "The longest text, and one more byte",
-        longest_text(rt.alloc())?,
+        longest_text(alloc)?,
     )?;
     tally.close(
         rt,
         "The longest text that is printed, and more",
-        growing_text(rt.alloc())?,
+        growing_text(alloc)?,
+    )?;
+    let profile = longest_profile(alloc, &["opt", "a.ll", "a.prof", "o.ll", "c.json"])?;
+    tally.close(rt, "The longest profile, and one more byte", profile)?;
+    let profile = longest_profile(alloc, &["report", "a.ll", "a.prof"])?;
+    tally.close(
+        rt,
+        "The longest profile of a report, and one more byte",
+        profile,
     )?;
     tally.close(
         rt,
-        "The longest profile, and one more byte",
-        longest_profile(rt.alloc())?,
+        "The longest text that is reported, and one more byte",
+        longest_module(alloc)?,
     )?;
     tally.close(
         rt,
         "The longest text that is checked, and one more byte",
-        longest_out(rt.alloc())?,
+        longest_out(alloc)?,
     )
 }

@@ -3,8 +3,10 @@
 #![tactic(auto)]
 
 mod case;
+mod commands;
 mod escapes;
 mod limits;
+mod made;
 mod prefixes;
 mod problem;
 mod row;
@@ -12,6 +14,7 @@ mod table;
 mod tally;
 
 use crate::limits::run_limits;
+use crate::made::run_made;
 use crate::prefixes::run_prefixes;
 use crate::problem::Problem;
 use crate::table::{Texts, run_table};
@@ -36,6 +39,7 @@ fn run(rt: &HostRuntime) -> Result<(), Problem> {
     for table in &tables {
         run_table(rt, table, &mut texts, &mut tally)?;
     }
+    run_made(rt, &texts, &mut tally)?;
     run_prefixes(rt, &texts, &mut tally)?;
     run_limits(rt, &mut tally)?;
     println!(rt; "{} rows, {} as wanted", tally.rows, tally.fine)?;

@@ -1,7 +1,7 @@
 //! Rows of a table.
 
 use crate::case::{Case, File};
-use crate::escapes::unescaped;
+use crate::escapes::{bytes_of_lines, unescaped};
 use crate::problem::Problem;
 use crate::table::{Section, Texts};
 use crate::tally::Tally;
@@ -61,9 +61,9 @@ impl<'t> Row<'t> {
     }
 
     /// The lines of the section of this name.
-    fn table(&self) -> Option<&'t str> {
+    fn section(&self, name: &str) -> Option<&'t str> {
         for section in &self.sections {
-            if section.head == "table" {
+            if section.head == name {
                 return section.lines;
             }
         }
@@ -74,7 +74,7 @@ impl<'t> Row<'t> {
     /// `$3`; or, where it has a field `prefixes`, for each proper prefix of the file that this names.
     pub fn run(&self, rt: &HostRuntime, tally: &mut Tally) -> Result<(), Problem> {
         let mut own = Tally::new();
-        match self.table() {
+        match self.section("table") {
             Some(table) => self.run_lines(rt, table, &mut own)?,
             None => self.run_with(rt, &[], &mut own)?,
         }
@@ -139,7 +139,7 @@ impl<'t> Row<'t> {
             room: filled.number("room", 200)? as usize,
             status: filled.number("status", 0)?,
             err: filled.line("err")?,
-            out: filled.bytes(self.field("out"))?,
+            out: filled.out()?,
             left: filled.bytes(self.field("left"))?,
             after: filled.files("after ")?,
             any: filled.text(self.field("any"))?,
@@ -166,9 +166,7 @@ impl Filled<'_> {
 
     /// The bytes of lines without their last line feed.
     fn lines(&self, lines: &str) -> Result<Vec<u8>, Problem> {
-        let mut text = self.text(lines)?;
-        text.push_str("\n")?;
-        unescaped(self.alloc, &text)
+        bytes_of_lines(self.alloc, &self.text(lines)?)
     }
 
     /// The line of a field, with its line feed; nothing where the row hasn't this field.
@@ -176,6 +174,15 @@ impl Filled<'_> {
         match self.row.field(name) {
             "" => Ok(Vec::new(self.alloc)),
             line => self.lines(line),
+        }
+    }
+
+    /// What `out` holds in the end: the lines of the section `out`, or the bytes of the field where the row hasn't this
+    /// section.
+    fn out(&self) -> Result<Vec<u8>, Problem> {
+        match self.row.section("out") {
+            Some(lines) => self.lines(lines),
+            None => self.bytes(self.row.field("out")),
         }
     }
 

@@ -1,5 +1,6 @@
 //! Tables of rows.
 
+use crate::escapes::bytes_of_lines;
 use crate::problem::Problem;
 use crate::row::Row;
 use crate::tally::Tally;
@@ -56,6 +57,14 @@ impl<'t> Texts<'t> {
             }
         }
         Err(Problem::Form)
+    }
+
+    /// The bytes of the text of a name.
+    pub fn bytes(&self, alloc: Global, name: &str) -> Result<Vec<u8>, Problem> {
+        match self.find(name)?.lines {
+            Some(lines) => bytes_of_lines(alloc, lines),
+            None => Ok(Vec::new(alloc)),
+        }
     }
 }
 
