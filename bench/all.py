@@ -76,7 +76,7 @@ def cells(figure: Figure) -> list[str]:
 
 def table_of(ended: list[Ended]) -> str:
     """The table, and below it the bars that were missed and the scripts that could not measure."""
-    lines = [" | ".join(HEAD), "|".join(["---"] * len(HEAD))]
+    lines = [" | ".join(HEAD), " | ".join(["---"] * len(HEAD))]
     missed = []
     for name, outcome, _ in ended:
         if outcome is None:

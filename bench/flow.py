@@ -150,7 +150,8 @@ def bars_of(found: list[Measured]) -> list[Bar]:
     for fewer, more in zip(found, found[1:]):
         if has_bar(fewer):
             growth = growth_of(fewer, more)
-            bars.append(Bar(growth <= MOST_GROWTH, f"{more.title()}: at most {MOST_GROWTH:.0f} times {fewer.title()} ({growth:.1f})"))
+            bar = f"{more.title()}: at most {MOST_GROWTH:.0f} times {fewer.title()} ({growth:.1f})"
+            bars.append(Bar(growth <= MOST_GROWTH, bar))
     return bars
 
 
