@@ -3,7 +3,7 @@
 # works in the folder example/ beside it.
 #
 #     sh example.sh          does that
-#     sh example.sh --all    does that, and then prints, runs, optimises and checks each example of examples/
+#     sh example.sh --all    does that, and then prints, runs, reports on, optimises and checks each example of examples/
 set -u
 
 fail() {
@@ -31,7 +31,7 @@ run_example() {
     same "$made/line" "$given/line"
 }
 
-# Prints, runs, optimises and checks an example, and compares all that comes with the files of the example.
+# Prints, runs, reports on, optimises and checks an example, and compares all that comes with the files of the example.
 try_example() {
     given=examples/$1
     made=example/$1
@@ -43,12 +43,14 @@ try_example() {
     same "$made/again.ll" "$made/printed.ll"
     run_example "$module" "$made/profile"
     same "$made/profile" "$given/profile"
+    "$program" report "$module" "$made/profile" >"$made/report" || fail "there is no report on $module"
+    same "$made/report" "$given/report"
     "$program" opt "$module" "$made/profile" "$made/optimised.ll" "$made/certificate.json" || fail "$module wasn't optimised"
     same "$made/optimised.ll" "$given/optimised.ll"
     "$program" check "$module" "$made/profile" "$made/optimised.ll" "$made/certificate.json" ||
         fail "the checker didn't say yes to $module"
     run_example "$made/optimised.ll" -
-    echo "$1 was printed, run, optimised, checked and run again as it should"
+    echo "$1 was printed, run, reported on, optimised, checked and run again as it should"
 }
 
 case "$*" in

@@ -2,7 +2,7 @@
 
     python3 bench/all.py [--only NAME ..] [--table FILE] [--program PROGRAM] [--flow-program PROGRAM]
 
-The scripts are print, run, opt, check and flow; NAME is one of these, and without `--only` all are run. PROGRAM is the
+The scripts are print, run, opt, check, report and flow; NAME is one of these, and without `--only` all are run. PROGRAM is the
 built program, crates/mcpre/out/mcpre and crates/flow_times/out/flow_times if none is given. What each script measures,
 and its bars, its own text says.
 
@@ -35,6 +35,7 @@ SCRIPTS = {
     "run": measure.MCPRE,
     "opt": measure.MCPRE,
     "check": measure.MCPRE,
+    "report": measure.MCPRE,
     "flow": measure.FLOW_TIMES,
 }
 HEAD = ["measured", "seconds", "comes to", "peak, MiB", "LLVM 19", "its seconds", "part of it", "growth", "from"]
