@@ -1,6 +1,9 @@
 #!/bin/sh
 # Proves and builds mcpre, prints a shipped module, runs another one, optimises a third, and checks its certificate. It
 # works in the folder example/ beside it.
+#
+#     sh example.sh          does that
+#     sh example.sh --all    does that, and then prints, runs, reports on, optimises and checks each example of examples/
 set -u
 
 fail() {
@@ -13,6 +16,48 @@ step() {
     echo "+ $*"
     "$@" || fail "this step failed: $*"
 }
+
+# Goes on only where two files hold the same.
+same() {
+    cmp "$1" "$2" || fail "$1 isn't what $2 says"
+}
+
+# Runs a module of an example over the input of the example, for its profile. What it shows and says must be as it should.
+run_example() {
+    entered=/dev/null
+    [ ! -f "$given/input" ] || entered=$given/input
+    "$program" run 1000000 "$1" "$2" <"$entered" >"$made/shown" 2>"$made/line" || fail "the run of $1 failed"
+    same "$made/shown" "$given/shown"
+    same "$made/line" "$given/line"
+}
+
+# Prints, runs, reports on, optimises and checks an example, and compares all that comes with the files of the example.
+try_example() {
+    given=examples/$1
+    made=example/$1
+    module=$given/$1.ll
+    rm -rf "$made" || fail "$made can't be removed"
+    mkdir -p "$made" || fail "$made can't be made"
+    "$program" print "$module" "$made/printed.ll" || fail "$module wasn't printed"
+    "$program" print "$made/printed.ll" "$made/again.ll" || fail "the text of $module wasn't printed"
+    same "$made/again.ll" "$made/printed.ll"
+    run_example "$module" "$made/profile"
+    same "$made/profile" "$given/profile"
+    "$program" report "$module" "$made/profile" >"$made/report" || fail "there is no report on $module"
+    same "$made/report" "$given/report"
+    "$program" opt "$module" "$made/profile" "$made/optimised.ll" "$made/certificate.json" || fail "$module wasn't optimised"
+    same "$made/optimised.ll" "$given/optimised.ll"
+    "$program" check "$module" "$made/profile" "$made/optimised.ll" "$made/certificate.json" ||
+        fail "the checker didn't say yes to $module"
+    run_example "$made/optimised.ll" -
+    echo "$1 was printed, run, reported on, optimised, checked and run again as it should"
+}
+
+case "$*" in
+"") wants_all=no ;;
+--all) wants_all=yes ;;
+*) fail "usage: sh example.sh [--all]" ;;
+esac
 
 program=crates/mcpre/out/mcpre
 input=example/a.ll
@@ -135,11 +180,12 @@ echo "$again"
 [ "$again" = "$shown" ] || fail "the optimised module showed something else"
 echo "the example was optimised as it should"
 
-# The checker says yes to the certificate. With one unit more on the first arc, which then is above its capacity, it says no.
+# The checker says yes to the certificate. With one unit more on the first arc than its capacity, which is the weight of
+# one turn, it says no.
 step "$program" check "$plain" "$counts" "$optimised" "$certificate"
 echo "the checker says yes"
-echo "+ sed s/1048576/1048577/ $certificate > $broken"
-sed s/1048576/1048577/ "$certificate" >"$broken" || fail "$broken can't be written"
+echo "+ sed 's/\"flow\":\[\"0\"\]/\"flow\":[\"1048577\"]/' $certificate > $broken"
+sed 's/"flow":\["0"\]/"flow":["1048577"]/' "$certificate" >"$broken" || fail "$broken can't be written"
 echo "+ $program check $plain $counts $optimised $broken"
 answer=$("$program" check "$plain" "$counts" "$optimised" "$broken" 2>&1)
 status=$?
@@ -147,3 +193,9 @@ echo "$answer"
 [ "$status" = 6 ] || fail "the checker ended with status $status"
 [ "$answer" = "mcpre: no: N5 Capacity function 0 expression 0 arc 0" ] || fail "the checker said something else"
 echo "the checker said no to the broken certificate, as it should"
+
+if [ "$wants_all" = yes ]; then
+    for folder in examples/*/; do
+        try_example "$(basename "$folder")"
+    done
+fi

@@ -17,12 +17,13 @@ The status is 0 where no bar is missed, 1 where one is, and 2 where something co
 a temporary folder, which is removed. Linux alone.
 """
 
-import sys
 import tempfile
 from pathlib import Path
 from typing import NamedTuple
 
+import measure
 import opt
+from measure import Bar, Figure, Outcome, Run, least
 
 MOST_MEMORY = 30.0
 
@@ -31,24 +32,24 @@ class Checked(NamedTuple):
     """What the runs of `opt` and of `check` took on a module."""
 
     files: opt.Files
-    opt_runs: list[opt.Run]
-    runs: list[opt.Run]
+    opt_runs: list[Run]
+    runs: list[Run]
     # The bytes of the module, the profile, the new module and the certificate.
     length: int
 
-    def best(self) -> opt.Run:
-        return opt.least(self.runs)
+    def best(self) -> Run:
+        return least(self.runs)
 
     def share_of_opt(self) -> float:
-        return self.best().processor_seconds / opt.least(self.opt_runs).processor_seconds
+        return self.best().processor_seconds / least(self.opt_runs).processor_seconds
 
     def peak_of_byte(self) -> float:
         return self.best().peak_bytes / self.length
 
 
-def run_check(program: Path, files: opt.Files) -> opt.Run:
+def run_check(program: Path, files: opt.Files) -> Run:
     names = [str(name) for name in names_of(files)]
-    return opt.run_once([str(program), "check", *names], files.module.with_suffix(".errors"))
+    return measure.run_once([str(program), "check", *names], files.module.with_suffix(".errors"))
 
 
 def names_of(files: opt.Files) -> list[Path]:
@@ -70,7 +71,7 @@ def misses_bar(half: Checked | None, checked: Checked) -> bool:
     return checked.share_of_opt() > 1 or (half is not None and growth_of(half, checked) > opt.MOST_GROWTH)
 
 
-def measure(program: Path, folder: Path) -> dict[int, Checked]:
+def measure_rounds(program: Path, folder: Path) -> dict[int, Checked]:
     """Prints a line for each number of rounds, and gives what was measured."""
     print(f"{'module':<16}{'bytes':>11}{'runs':>6}{'check':>9}{'opt':>9}{'of it':>7}{'peak/byte':>11}{'growth':>8}")
     found: dict[int, Checked] = {}
@@ -87,7 +88,7 @@ def measure(program: Path, folder: Path) -> dict[int, Checked]:
         growth = "" if half is None else f"{growth_of(half, checked):.2f}"
         print(
             f"{files.title:<16}{checked.length:>11}{len(checked.runs):>6}{checked.best().processor_seconds:>9.3f}"
-            f"{opt.least(checked.opt_runs).processor_seconds:>9.3f}{checked.share_of_opt():>7.2f}"
+            f"{least(checked.opt_runs).processor_seconds:>9.3f}{checked.share_of_opt():>7.2f}"
             f"{checked.peak_of_byte():>11.2f}{growth:>8}",
             flush=True,
         )
@@ -95,30 +96,43 @@ def measure(program: Path, folder: Path) -> dict[int, Checked]:
     return found
 
 
-def judge(found: dict[int, Checked]) -> bool:
-    """Prints each bar, and gives whether all are met."""
-    met = []
+def figures_of(found: dict[int, Checked]) -> list[Figure]:
+    figures = []
+    for size, checked in found.items():
+        half, best = found.get(size // 2), checked.best()
+        figures.append(Figure(
+            f"check, {checked.files.title}",
+            best.processor_seconds,
+            f"{checked.share_of_opt():.2f} of mcpre opt, {checked.peak_of_byte():.1f} B/B",
+            best.peak_bytes,
+            None if half is None else growth_of(half, checked),
+            None if half is None else half.files.title,
+        ))
+    return figures
+
+
+def bars_of(found: dict[int, Checked]) -> list[Bar]:
+    bars = []
     for size, checked in found.items():
         title = checked.files.title
         share = checked.share_of_opt()
-        met.append(opt.holds(share <= 1, f"{title}: at most the time of opt ({share:.2f} of it)"))
+        bars.append(Bar(share <= 1, f"{title}: at most the time of opt ({share:.2f} of it)"))
         half = found.get(size // 2)
         if half is not None:
             growth = growth_of(half, checked)
             bar = f"{title}: at most {opt.MOST_GROWTH} times the time of {half.files.title} ({growth:.2f})"
-            met.append(opt.holds(growth <= opt.MOST_GROWTH, bar))
+            bars.append(Bar(growth <= opt.MOST_GROWTH, bar))
         if checked.length >= opt.LEAST_TEXT_FOR_MEMORY:
             peak = checked.peak_of_byte()
-            met.append(opt.holds(peak <= MOST_MEMORY, f"{title}: at most {MOST_MEMORY:.0f} bytes of memory for a byte ({peak:.2f})"))
-    return all(met)
+            bars.append(Bar(peak <= MOST_MEMORY, f"{title}: at most {MOST_MEMORY:.0f} bytes of memory for a byte ({peak:.2f})"))
+    return bars
 
 
-def main() -> int:
-    program = opt.program_asked_for("Measures the time and the memory of mcpre check.")
+def measure_all(program: Path) -> Outcome:
     with tempfile.TemporaryDirectory(prefix="mcpre-bench-") as name:
-        found = measure(program, Path(name))
-    return 0 if judge(found) else 1
+        found = measure_rounds(program, Path(name))
+        return Outcome(figures_of(found), bars_of(found))
 
 
 if __name__ == "__main__":
-    sys.exit(main())
+    measure.run_script("Measures the time and the memory of mcpre check.", measure.MCPRE, measure_all)

@@ -25,21 +25,18 @@ the same steps for each arc takes longer for it.) Smaller networks are too quick
 The status is 0 where no bar is missed, 1 where one is, and 2 where something could not be measured. Linux alone.
 """
 
-import argparse
-import os
-import sys
 import tempfile
 from pathlib import Path
 from typing import NamedTuple
 
-TOP = Path(__file__).resolve().parent.parent
-BUILT_PROGRAM = TOP / "crates" / "flow_times" / "out" / "flow_times"
+import measure
+from measure import Bar, Figure, Outcome
+
 RUNS = 5
 MORE_RUNS = 10
 LONG_RUN_SECONDS = 5.0
 MOST_GROWTH = 16.0
 LEAST_ARCS_FOR_BAR = 10000
-CANNOT_MEASURE = 2
 
 ARCS = [1000, 10000, 100000, 1000000]
 KINDS = ["chain", "ladder", "grid", "random"]
@@ -73,26 +70,16 @@ class Measured(NamedTuple):
         return max(least_time(self.solved) - self.build_seconds(), 1e-6)
 
 
-def give_up(message: str) -> None:
-    print(f"flow.py: {message}", file=sys.stderr)
-    sys.exit(CANNOT_MEASURE)
-
-
 def least_time(runs: list[Run]) -> float:
     return min(run.processor_seconds for run in runs)
 
 
 def run_once(program: Path, words: list[str]) -> Run:
     """Runs the program, and gives what it took and printed."""
-    with tempfile.TemporaryFile() as output:
-        to_output = (os.POSIX_SPAWN_DUP2, output.fileno(), 1)
-        child = os.posix_spawn(str(program), [str(program), *words], {}, file_actions=[to_output])
-        _, status, used = os.wait4(child, 0)
-        output.seek(0)
-        printed = output.read().decode()
-    if status != 0:
-        give_up(f"{program} {' '.join(words)} ended with {os.waitstatus_to_exitcode(status)}")
-    return Run(used.ru_utime + used.ru_stime, printed)
+    with tempfile.TemporaryDirectory(prefix="mcpre-bench-") as name:
+        output = Path(name) / "out"
+        run = measure.run_once([str(program), *words], Path(name) / "errors", output)
+        return Run(run.processor_seconds, output.read_text())
 
 
 def run_more(program: Path, measured: Measured, count: int) -> None:
@@ -127,7 +114,7 @@ def print_row(measured: Measured, fewer: Measured | None) -> None:
     )
 
 
-def measure(program: Path, kind: str) -> list[Measured]:
+def measure_kind(program: Path, kind: str) -> list[Measured]:
     """Prints the lines of a kind, and gives what was measured for each number of arcs."""
     found: list[Measured] = []
     for arcs in ARCS:
@@ -145,35 +132,35 @@ def measure(program: Path, kind: str) -> list[Measured]:
     return found
 
 
-def judge(found: list[Measured]) -> bool:
-    """Prints each bar, and gives whether all are met."""
-    is_met = True
+def figures_of(found: list[Measured]) -> list[Figure]:
+    return [
+        Figure(
+            f"flow, {more.title()} arcs",
+            more.solve_seconds(),
+            f"{more.solve_seconds() / more.arcs * 1e6:.2f} us/arc, {more.phases}",
+            growth=None if fewer is None else growth_of(fewer, more),
+            than=None if fewer is None else fewer.title(),
+        )
+        for fewer, more in zip([None, *found], found)
+    ]
+
+
+def bars_of(found: list[Measured]) -> list[Bar]:
+    bars = []
     for fewer, more in zip(found, found[1:]):
-        if not has_bar(fewer):
-            continue
-        growth = growth_of(fewer, more)
-        is_held = growth <= MOST_GROWTH
-        print(f"{'yes' if is_held else 'NO ':<4}{more.title()}: at most {MOST_GROWTH:.0f} times {fewer.title()} ({growth:.1f})")
-        is_met = is_met and is_held
-    return is_met
+        if has_bar(fewer):
+            growth = growth_of(fewer, more)
+            bar = f"{more.title()}: at most {MOST_GROWTH:.0f} times {fewer.title()} ({growth:.1f})"
+            bars.append(Bar(growth <= MOST_GROWTH, bar))
+    return bars
 
 
-def program_asked_for() -> Path:
-    parser = argparse.ArgumentParser(description="Measures the time of maximum flows and their cuts.")
-    parser.add_argument("--program", type=Path, default=BUILT_PROGRAM, help="the built program")
-    program = parser.parse_args().program.resolve()
-    if not program.is_file():
-        give_up(f"there is no program at {program}: run first, in crates/flow_times, rt run")
-    return program
-
-
-def main() -> int:
-    program = program_asked_for()
+def measure_all(program: Path) -> Outcome:
     print_head()
-    measured = [measure(program, kind) for kind in KINDS]
-    met = [judge(found) for found in measured]
-    return 0 if all(met) else 1
+    measured = [measure_kind(program, kind) for kind in KINDS]
+    figures = [figure for found in measured for figure in figures_of(found)]
+    return Outcome(figures, [bar for found in measured for bar in bars_of(found)])
 
 
 if __name__ == "__main__":
-    sys.exit(main())
+    measure.run_script("Measures the time of maximum flows and their cuts.", measure.FLOW_TIMES, measure_all)

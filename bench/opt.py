@@ -32,23 +32,18 @@ installed: where opt-19 (of Debian's package llvm-19) is missing, the script say
 are made in a temporary folder, which is removed. Linux alone.
 """
 
-import argparse
-import os
-import shutil
-import sys
 import tempfile
-import time
 from pathlib import Path
 from typing import Callable, NamedTuple
 
-TOP = Path(__file__).resolve().parent.parent
-BUILT_PROGRAM = TOP / "crates" / "mcpre" / "out" / "mcpre"
+import measure
+from measure import Bar, Figure, Outcome, Run, give_up, least, run_once
+
 RUNS = 3
 MORE_RUNS = 12
 MOST_GROWTH = 2.3
 MOST_MEMORY = 40.0
 LEAST_TEXT_FOR_MEMORY = 1 << 20
-CANNOT_MEASURE = 2
 
 # 5000 is there as the half of 10000.
 ROUNDS = [1000, 2000, 4000, 5000, 10000]
@@ -88,14 +83,6 @@ class Files(NamedTuple):
     # The bytes of the module's text.
     length: int
     pairs: int
-
-
-class Run(NamedTuple):
-    """What one run of a program took."""
-
-    processor_seconds: float
-    clock_seconds: float
-    peak_bytes: int
 
 
 class Measured(NamedTuple):
@@ -236,25 +223,6 @@ FAMILIES = [
 # ---- runs
 
 
-def give_up(message: str) -> None:
-    print(f"opt.py: {message}", file=sys.stderr)
-    sys.exit(CANNOT_MEASURE)
-
-
-def run_once(words: list[str], errors: Path) -> Run:
-    """Runs a program, and gives what it took."""
-    to_errors = (os.POSIX_SPAWN_OPEN, 2, str(errors), os.O_WRONLY | os.O_CREAT | os.O_TRUNC, 0o600)
-    begun = time.perf_counter()
-    child = os.posix_spawn(words[0], words, {}, file_actions=[to_errors])
-    _, status, used = os.wait4(child, 0)
-    clock_seconds = time.perf_counter() - begun
-    if status != 0:
-        code = os.waitstatus_to_exitcode(status)
-        told = errors.read_text(errors="replace").strip()
-        give_up(f"{' '.join(words)} ended with {code}: {told}")
-    return Run(used.ru_utime + used.ru_stime, clock_seconds, used.ru_maxrss * 1024)
-
-
 def make_files(folder: Path, family: Family, size: int) -> Files:
     made = family.make(size)
     stem = folder / f"{family.unit}-{size}"
@@ -262,8 +230,8 @@ def make_files(folder: Path, family: Family, size: int) -> Files:
         f"{size} {family.unit}",
         stem.with_suffix(".ll"),
         stem.with_suffix(".prof"),
-        folder / "optimised.ll",
-        folder / "certificate.json",
+        stem.with_suffix(".optimised"),
+        stem.with_suffix(".json"),
         len(made.module.encode()),
         family.pairs(size),
     )
@@ -293,10 +261,6 @@ def run_opt(opt: str, files: Files) -> Run:
 def check_output(opt: str, files: Files) -> None:
     """Gives up where LLVM doesn't accept the module that the program wrote."""
     run_once([opt, "-passes=verify", "-disable-output", str(files.output)], files.module.with_suffix(".errors"))
-
-
-def least(runs: list[Run]) -> Run:
-    return min(runs, key=lambda run: run.processor_seconds)
 
 
 def run_more(program: Path, opt: str | None, measured: Measured, count: int) -> None:
@@ -342,7 +306,7 @@ def print_row(measured: Measured, size: int, half: Measured | None) -> None:
     )
 
 
-def measure(program: Path, opt: str | None, folder: Path, family: Family) -> dict[int, Measured]:
+def measure_family(program: Path, opt: str | None, folder: Path, family: Family) -> dict[int, Measured]:
     """Prints the lines of a family, and gives what was measured for each size."""
     found: dict[int, Measured] = {}
     for size in family.sizes:
@@ -363,53 +327,52 @@ def measure(program: Path, opt: str | None, folder: Path, family: Family) -> dic
     return found
 
 
-def holds(condition: bool, text: str) -> bool:
-    """Prints whether a bar is met."""
-    print(f"{'yes' if condition else 'NO ':<4}{text}")
-    return condition
+def figures_of(found: dict[int, Measured]) -> list[Figure]:
+    figures = []
+    for size, measured in found.items():
+        half, best = found.get(size // 2), measured.best()
+        figures.append(Figure(
+            f"opt, {measured.files.title}",
+            best.processor_seconds,
+            f"{best.processor_seconds / measured.files.pairs * 1e6:.2f} us/pair, {measured.peak_of_byte():.1f} B/B",
+            best.peak_bytes,
+            None if half is None else growth_of(half, measured),
+            None if half is None else half.files.title,
+            "opt -passes=mem2reg,gvn" if measured.opt_runs else None,
+            least(measured.opt_runs).processor_seconds if measured.opt_runs else None,
+        ))
+    return figures
 
 
-def judge(found: dict[int, Measured]) -> bool:
-    """Prints each bar, and gives whether all are met."""
-    met = []
+def bars_of(found: dict[int, Measured]) -> list[Bar]:
+    bars = []
     for measured in found.values():
         share = measured.share_of_opt()
         if share is not None:
-            met.append(holds(share <= 1, f"{measured.files.title}: at most the time of opt-19 ({share:.2f} of it)"))
+            bars.append(Bar(share <= 1, f"{measured.files.title}: at most the time of opt-19 ({share:.2f} of it)"))
     for size, measured in found.items():
         half = found.get(size // 2)
         if half is not None:
             growth = growth_of(half, measured)
             bar = f"{measured.files.title}: at most {MOST_GROWTH} times the time of {half.files.title} ({growth:.2f})"
-            met.append(holds(growth <= MOST_GROWTH, bar))
+            bars.append(Bar(growth <= MOST_GROWTH, bar))
     for measured in found.values():
         if measured.files.length >= LEAST_TEXT_FOR_MEMORY:
             peak = measured.peak_of_byte()
             bar = f"{measured.files.title}: at most {MOST_MEMORY:.0f} bytes of memory for a byte ({peak:.2f})"
-            met.append(holds(peak <= MOST_MEMORY, bar))
-    return all(met)
+            bars.append(Bar(peak <= MOST_MEMORY, bar))
+    return bars
 
 
-def program_asked_for(purpose: str) -> Path:
-    parser = argparse.ArgumentParser(description=purpose)
-    parser.add_argument("--program", type=Path, default=BUILT_PROGRAM, help="the built program")
-    program = parser.parse_args().program.resolve()
-    if not program.is_file():
-        give_up(f"there is no program at {program}: run first, at the top of the repository, sh example.sh")
-    return program
-
-
-def main() -> int:
-    program = program_asked_for("Measures the time and the memory of mcpre opt.")
-    opt = shutil.which("opt-19")
-    if opt is None:
-        print("opt-19 isn't installed (Debian's package llvm-19 has it): its times are left out, and so is their bar")
+def measure_all(program: Path) -> Outcome:
+    opt = measure.of_llvm("opt-19", "its times are left out, and so is their bar")
     with tempfile.TemporaryDirectory(prefix="mcpre-bench-") as name:
         print_head()
-        measured = [measure(program, opt, Path(name), family) for family in FAMILIES]
-    met = [judge(found) for family, found in zip(FAMILIES, measured) if family.has_bars]
-    return 0 if all(met) else 1
+        measured = [measure_family(program, opt, Path(name), family) for family in FAMILIES]
+        figures = [figure for found in measured for figure in figures_of(found)]
+        bars = [bar for family, found in zip(FAMILIES, measured) if family.has_bars for bar in bars_of(found)]
+    return Outcome(figures, bars)
 
 
 if __name__ == "__main__":
-    sys.exit(main())
+    measure.run_script("Measures the time and the memory of mcpre opt.", measure.MCPRE, measure_all)

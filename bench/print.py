@@ -1,6 +1,6 @@
 """Measures the time and the memory of `mcpre print` on large texts, beside LLVM's `opt`, and how its time grows.
 
-    python3 bench/print.py [PROGRAM]
+    python3 bench/print.py [--program PROGRAM]
 
 PROGRAM is the built program, crates/mcpre/out/mcpre if none is given. Three things are measured:
 
@@ -24,22 +24,18 @@ are made in a temporary folder, which is removed. Linux alone.
 
 import filecmp
 import itertools
-import os
-import shutil
-import sys
 import tempfile
-import time
 from pathlib import Path
 from typing import Callable, Iterator, NamedTuple
 
-TOP = Path(__file__).resolve().parent.parent
-BUILT_PROGRAM = TOP / "crates" / "mcpre" / "out" / "mcpre"
+import measure
+from measure import Bar, Figure, Outcome, Run, give_up, least, run_once
+
 RUNS = 3
 MORE_RUNS = 12
 MOST_GROWTH = 2.3
 MOST_MEMORY = 40.0
 LEAST_TEXT_FOR_MEMORY = 1 << 20
-CANNOT_MEASURE = 2
 
 TEXT_LIMIT = 1 << 26
 INSTRUCTION_LIMIT = 1 << 18
@@ -61,14 +57,6 @@ class Family(NamedTuple):
     pieces: Callable[[int], Iterator[bytes]]
     # What the program must print, or None where the text is canonical, so that it must print the text itself.
     printed: bytes | None = None
-
-
-class Run(NamedTuple):
-    """What one run of a program took."""
-
-    processor_seconds: float
-    clock_seconds: float
-    peak_bytes: int
 
 
 class Text(NamedTuple):
@@ -265,25 +253,6 @@ FAMILIES = [
 # ---- runs
 
 
-def give_up(message: str) -> None:
-    print(f"print.py: {message}", file=sys.stderr)
-    sys.exit(CANNOT_MEASURE)
-
-
-def run_once(words: list[str], errors: Path) -> Run:
-    """Runs a program, and gives what it took."""
-    to_errors = (os.POSIX_SPAWN_OPEN, 2, str(errors), os.O_WRONLY | os.O_CREAT | os.O_TRUNC, 0o600)
-    begun = time.perf_counter()
-    child = os.posix_spawn(words[0], words, {}, file_actions=[to_errors])
-    _, status, used = os.wait4(child, 0)
-    clock_seconds = time.perf_counter() - begun
-    if status != 0:
-        code = os.waitstatus_to_exitcode(status)
-        told = errors.read_text(errors="replace").strip()
-        give_up(f"{' '.join(words)} ended with {code}: {told}")
-    return Run(used.ru_utime + used.ru_stime, clock_seconds, used.ru_maxrss * 1024)
-
-
 def check_printed(text: Text, target: Path) -> None:
     if not target.is_file():
         give_up(f"the program printed nothing for {text.title}")
@@ -317,10 +286,6 @@ def run_program(program: Path, folder: Path, text: Text) -> Run:
 def run_opt(opt: str, folder: Path, text: Text) -> Run:
     target = folder / "printed.ll"
     return run_once([opt, "-S", "-passes=verify", str(text.path), "-o", str(target)], folder / "errors")
-
-
-def least(runs: list[Run]) -> Run:
-    return min(runs, key=lambda run: run.processor_seconds)
 
 
 # ---- what is measured
@@ -389,48 +354,50 @@ def measure_growth(program: Path, folder: Path, family: Family) -> tuple[Measure
     return measured, growth
 
 
-def holds(condition: bool, text: str) -> bool:
-    """Prints whether a bar is met."""
-    print(f"{'yes' if condition else 'NO ':<4}{text}")
-    return condition
+def figure_of(measured: Measured, growth: float | None) -> Figure:
+    text, run, opt_seconds = measured
+    return Figure(
+        f"print, {text.title}",
+        run.processor_seconds,
+        f"{text.length / run.processor_seconds / 1e6:.1f} MB/s, {run.peak_bytes / text.length:.1f} B/B",
+        run.peak_bytes,
+        growth,
+        None if growth is None else "its half",
+        None if opt_seconds is None else "opt -passes=verify",
+        opt_seconds,
+    )
 
 
-def judge(modules: list[Measured], families: list[tuple[Measured, float]]) -> bool:
-    """Prints each bar, and gives whether all are met."""
-    met = []
+def bars_of(modules: list[Measured], families: list[tuple[Measured, float]]) -> list[Bar]:
+    bars = []
     for text, run, opt_seconds in modules:
         if opt_seconds is None:
             continue
         share = run.processor_seconds / opt_seconds
-        met.append(holds(share <= 1, f"{text.title}: at most the time of opt-19 ({share:.2f} of it)"))
+        bars.append(Bar(share <= 1, f"{text.title}: at most the time of opt-19 ({share:.2f} of it)"))
     for measured, growth in families:
         bar = f"{measured.text.title}: at most {MOST_GROWTH} times the time of its half ({growth:.2f})"
-        met.append(holds(growth <= MOST_GROWTH, bar))
+        bars.append(Bar(growth <= MOST_GROWTH, bar))
     for text, run, _ in modules + [measured for measured, _ in families]:
         if text.length < LEAST_TEXT_FOR_MEMORY:
             continue
         peak = run.peak_bytes / text.length
         bar = f"{text.title}: at most {MOST_MEMORY:.0f} bytes of memory for a byte ({peak:.2f})"
-        met.append(holds(peak <= MOST_MEMORY, bar))
-    return all(met)
+        bars.append(Bar(peak <= MOST_MEMORY, bar))
+    return bars
 
 
-def main() -> int:
-    if len(sys.argv) > 2:
-        give_up("usage: python3 bench/print.py [PROGRAM]")
-    program = Path(sys.argv[1]).resolve() if len(sys.argv) == 2 else BUILT_PROGRAM
-    if not program.is_file():
-        give_up(f"there is no program at {program}: run first, at the top of the repository, sh example.sh")
-    opt = shutil.which("opt-19")
-    if opt is None:
-        print("opt-19 isn't installed (Debian's package llvm-19 has it): its times are left out, and so is their bar")
+def measure_all(program: Path) -> Outcome:
+    opt = measure.of_llvm("opt-19", "its times are left out, and so is their bar")
     with tempfile.TemporaryDirectory(prefix="mcpre-bench-") as name:
         folder = Path(name)
         print_head()
         modules = [measure_beside_opt(program, opt, folder, family) for family in MODULES]
         families = [measure_growth(program, folder, family) for family in FAMILIES]
-    return 0 if judge(modules, families) else 1
+    figures = [figure_of(measured, None) for measured in modules]
+    figures += [figure_of(measured, growth) for measured, growth in families]
+    return Outcome(figures, bars_of(modules, families))
 
 
 if __name__ == "__main__":
-    sys.exit(main())
+    measure.run_script("Measures the time and the memory of mcpre print.", measure.MCPRE, measure_all)

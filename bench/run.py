@@ -1,6 +1,6 @@
 """Measures the time and the memory of `mcpre run`: steps per second, and how the time of a step grows.
 
-    python3 bench/run.py [PROGRAM]
+    python3 bench/run.py [--program PROGRAM]
 
 PROGRAM is the built program, crates/mcpre/out/mcpre if none is given. Four things are measured:
 
@@ -23,33 +23,21 @@ installed: where lli-19 (of Debian's package llvm-19) is missing, the script say
 folder, which is removed. Linux alone.
 """
 
-import os
-import shutil
-import sys
 import tempfile
-import time
 from pathlib import Path
 from typing import Callable, NamedTuple
 
-TOP = Path(__file__).resolve().parent.parent
-BUILT_PROGRAM = TOP / "crates" / "mcpre" / "out" / "mcpre"
+import measure
+from measure import Bar, Figure, Outcome, Run, give_up, least
+
 RUNS = 3
 MORE_RUNS = 9
 MOST_GROWTH_OF_STEP = 2.5
 MOST_GROWTH = 2.3
 MOST_GROWTH_OF_FRAMES = 3.45
-CANNOT_MEASURE = 2
 
 RETURNED = 0
 STEP_LIMIT = 8
-
-
-class Run(NamedTuple):
-    """What one run of a program took."""
-
-    processor_seconds: float
-    clock_seconds: float
-    peak_bytes: int
 
 
 class Task(NamedTuple):
@@ -252,25 +240,9 @@ MORE_FRAMES = 1_500_000
 # ---- runs
 
 
-def give_up(message: str) -> None:
-    print(f"run.py: {message}", file=sys.stderr)
-    sys.exit(CANNOT_MEASURE)
-
-
-def run_once(words: list[str], folder: Path) -> tuple[int, Run]:
+def run_in(words: list[str], folder: Path) -> tuple[int, Run]:
     """Runs a program without input, and gives its status and what it took. What it put is in two files."""
-    flags = os.O_WRONLY | os.O_CREAT | os.O_TRUNC
-    actions = [
-        (os.POSIX_SPAWN_OPEN, 0, os.devnull, os.O_RDONLY, 0),
-        (os.POSIX_SPAWN_OPEN, 1, str(folder / "out"), flags, 0o600),
-        (os.POSIX_SPAWN_OPEN, 2, str(folder / "errors"), flags, 0o600),
-    ]
-    begun = time.perf_counter()
-    child = os.posix_spawn(words[0], words, {}, file_actions=actions)
-    _, status, used = os.wait4(child, 0)
-    clock_seconds = time.perf_counter() - begun
-    run = Run(used.ru_utime + used.ru_stime, clock_seconds, used.ru_maxrss * 1024)
-    return os.waitstatus_to_exitcode(status), run
+    return measure.run_any(words, folder / "errors", folder / "out")
 
 
 def expect(task: Task, what: str, found: object, wanted: object) -> None:
@@ -282,7 +254,7 @@ def run_program(program: Path, folder: Path, task: Task, steps: int) -> Run:
     """Runs the program for at most so many steps, and gives up where it ends otherwise than it must."""
     profile = folder / "a.prof"
     profile.unlink(missing_ok=True)
-    status, run = run_once([str(program), "run", str(steps), str(folder / "a.ll"), str(profile)], folder)
+    status, run = run_in([str(program), "run", str(steps), str(folder / "a.ll"), str(profile)], folder)
     told = (folder / "errors").read_text(errors="replace")
     if steps < task.steps:
         expect(task, "the status", status, STEP_LIMIT)
@@ -297,17 +269,13 @@ def run_program(program: Path, folder: Path, task: Task, steps: int) -> Run:
 
 
 def run_lli(lli: str, folder: Path, task: Task) -> Run:
-    status, run = run_once([lli, "-force-interpreter=true", str(folder / "a.ll")], folder)
+    status, run = run_in([lli, "-force-interpreter=true", str(folder / "a.ll")], folder)
     expect(task, "the status of lli", status, 0)
     expect(task, "what lli shows", (folder / "out").read_bytes(), b"A" * task.shown)
     return run
 
 
-def least(runs: list[Run]) -> Run:
-    return min(runs, key=lambda run: run.processor_seconds)
-
-
-def measure(program: Path, lli: str | None, folder: Path, task: Task, runs: int) -> Measured:
+def measure_task(program: Path, lli: str | None, folder: Path, task: Task, runs: int) -> Measured:
     (folder / "a.ll").write_text(task.text)
     run_program(program, folder, task, task.steps - 1)
     starts, whole, of_lli = [], [], []
@@ -341,7 +309,7 @@ def print_row(measured: Measured) -> None:
     )
 
 
-class Bar(NamedTuple):
+class Growth(NamedTuple):
     """Two tasks, what of a run is compared, and by how much it may grow from the first to the second."""
 
     title: str
@@ -351,29 +319,29 @@ class Bar(NamedTuple):
     most: float
 
 
-BARS = [
-    Bar(
+GROWTHS = [
+    Growth(
         f"a step among {SIZES[-1]} functions: at most {MOST_GROWTH_OF_STEP} times that among {SIZES[0]}",
         many_functions(SIZES[0]),
         many_functions(SIZES[-1]),
         Measured.nanoseconds_of_step,
         MOST_GROWTH_OF_STEP,
     ),
-    Bar(
+    Growth(
         f"a step among {SIZES[-1]} blocks: at most {MOST_GROWTH_OF_STEP} times that among {SIZES[0]}",
         many_blocks(SIZES[0]),
         many_blocks(SIZES[-1]),
         Measured.nanoseconds_of_step,
         MOST_GROWTH_OF_STEP,
     ),
-    Bar(
+    Growth(
         f"twenty million steps: at most {MOST_GROWTH} times the time of ten million",
         arithmetic(1_000_000),
         arithmetic(2_000_000),
         Measured.seconds,
         MOST_GROWTH,
     ),
-    Bar(
+    Growth(
         f"{MORE_FRAMES} frames: at most {MOST_GROWTH_OF_FRAMES} times the time of {FEWER_FRAMES}",
         recursion(FEWER_FRAMES),
         recursion(MORE_FRAMES),
@@ -383,11 +351,11 @@ BARS = [
 ]
 
 
-def measure_bar(program: Path, folder: Path, bar: Bar) -> tuple[Measured, Measured, float]:
+def measure_growth(program: Path, folder: Path, bar: Growth) -> tuple[Measured, Measured, float]:
     """Prints the lines of both tasks, and gives the growth; with more runs where the first ones miss the bar."""
     for runs in (RUNS, MORE_RUNS):
-        small = measure(program, None, folder, bar.small, runs)
-        large = measure(program, None, folder, bar.large, runs)
+        small = measure_task(program, None, folder, bar.small, runs)
+        large = measure_task(program, None, folder, bar.large, runs)
         growth = bar.taken(large) / bar.taken(small)
         if growth <= bar.most:
             break
@@ -396,40 +364,45 @@ def measure_bar(program: Path, folder: Path, bar: Bar) -> tuple[Measured, Measur
     return small, large, growth
 
 
-def holds(condition: bool, text: str) -> bool:
-    """Says whether a bar is met."""
-    print(f"{'yes' if condition else 'NO ':<4}{text}")
-    return condition
+def figure_of(measured: Measured) -> Figure:
+    task = measured.task
+    return Figure(
+        f"run, {task.title}, {task.steps} steps",
+        measured.run.processor_seconds,
+        f"{task.steps / measured.seconds() / 1e6:.1f} million steps/s",
+        measured.run.peak_bytes,
+        beside=None if measured.lli_seconds is None else "lli -force-interpreter",
+        beside_seconds=measured.lli_seconds,
+    )
 
 
-def measure_all(program: Path, lli: str | None, folder: Path) -> bool:
-    """Prints the lines and the bars, and gives whether all bars are met."""
+def measure_in(program: Path, lli: str | None, folder: Path) -> Outcome:
+    """Prints the lines, and gives what was measured."""
+    alone = []
     for task in LOOPS:
-        print_row(measure(program, lli, folder, task, RUNS))
+        alone.append(measure_task(program, lli, folder, task, RUNS))
+        print_row(alone[-1])
     for make in FAMILIES:
         for count in SIZES[1:-1]:
-            print_row(measure(program, None, folder, make(count), RUNS))
-    judged = [(bar, *measure_bar(program, folder, bar)) for bar in BARS]
+            alone.append(measure_task(program, None, folder, make(count), RUNS))
+            print_row(alone[-1])
+    judged = [(bar, *measure_growth(program, folder, bar)) for bar in GROWTHS]
     fewer, more = judged[-1][1:3]
     of_frame = (more.run.peak_bytes - fewer.run.peak_bytes) / (MORE_FRAMES - FEWER_FRAMES)
     print(f"a frame of the recursion takes {of_frame:.0f} bytes of memory at the peak")
-    return all([holds(growth <= bar.most, f"{bar.title} ({growth:.2f})") for bar, _, _, growth in judged])
+    figures = [figure_of(measured) for measured in alone]
+    for bar, small, large, growth in judged:
+        than = f"{small.task.title}, {small.task.steps} steps"
+        figures += [figure_of(small), figure_of(large)._replace(growth=growth, than=than)]
+    return Outcome(figures, [Bar(growth <= bar.most, f"{bar.title} ({growth:.2f})") for bar, _, _, growth in judged])
 
 
-def main() -> int:
-    if len(sys.argv) > 2:
-        give_up("usage: python3 bench/run.py [PROGRAM]")
-    program = Path(sys.argv[1]).resolve() if len(sys.argv) == 2 else BUILT_PROGRAM
-    if not program.is_file():
-        give_up(f"there is no program at {program}: run first, at the top of the repository, sh example.sh")
-    lli = shutil.which("lli-19")
-    if lli is None:
-        print("lli-19 isn't installed (Debian's package llvm-19 has it): its times are left out")
+def measure_all(program: Path) -> Outcome:
+    lli = measure.of_llvm("lli-19", "its times are left out")
     with tempfile.TemporaryDirectory(prefix="mcpre-bench-") as name:
         print_head()
-        met = measure_all(program, lli, Path(name))
-    return 0 if met else 1
+        return measure_in(program, lli, Path(name))
 
 
 if __name__ == "__main__":
-    sys.exit(main())
+    measure.run_script("Measures the time and the memory of mcpre run.", measure.MCPRE, measure_all)
