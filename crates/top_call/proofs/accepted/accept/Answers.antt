@@ -6,7 +6,7 @@ use Rattle.top_call.proofs.accepted.accept.Goals as goal
 
 pub returns-in_err-program-clause-stops : goal.returns-in_err-program-clause-stops
 returns-in_err-program-clause-stops g c =
-    let p = err_from_is_err_and c.from_residual-in_err-program.result c.from_residual-in_err-program.ensures.1 in
+    let p = err_from_is_err_and c.from_residual.result c.from_residual.ensures.1 in
     rw (p.1, p.2) (λ before read holds. module_unparsed c.args.input.now c.args.profile.now before (g.H.Host.state c.args.host.now) c.args.source.now read holds c.requires.short
     c.in_err-program.field-0.0 c.in_err-program.ensures.stops)
 

@@ -6,7 +6,7 @@ use Rattle.top_call.proofs.opt.opt_source.Goals as goal
 
 pub returns-in_err-accepted-clause-ends : goal.returns-in_err-accepted-clause-ends
 returns-in_err-accepted-clause-ends g c = λ before read holds.
-    let p = err_from_is_err_and c.from_residual-in_err-accepted.result c.from_residual-in_err-accepted.ensures.1 in
+    let p = err_from_is_err_and c.from_residual.result c.from_residual.ensures.1 in
     rw (p.1, p.2) (unaccepted (files_of c.args.names) before (g.H.Host.state c.accept.new.host) c.in_err-accepted.field-0.0 (c.in_err-accepted.ensures.stops before read holds))
 
 pub returns-in_err-texts-clause-ends : goal.returns-in_err-texts-clause-ends
