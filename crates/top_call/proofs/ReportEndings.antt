@@ -1,6 +1,6 @@
 -- What an ending of `report` or `self` says.
 use Rattle.std.proofs.Common.{◌≡◌, ◌⊎◌, ℕ, List, [], Ok, Err, IsTrue, inl, inr, refl, sym, ap, subst, ◌∙◌, arith}
-use Rattle.std.specs.Prelude.{◌++◌}
+use Rattle.std.specs.Prelude.{◌++◌, IfErr, IfOk}
 use Rattle.std.proofs.lemmas.List.{append-nil}
 use Rattle.mc_host.specs.Faults.{Rose}
 use Rattle.mc_host.specs.Host.{HostState}
@@ -40,7 +40,7 @@ module _ (input counted_by : List ℕ) (old new : HostState) (out out' : SinkSta
   unaccepted_ends (Trapped trap) stops still = absurd stops
   unaccepted_ends (StepLimit steps) stops still = absurd stops
 
-  pub unput_ends : (text : List ℕ) → new.file ≡ old.file → (IsTrue old.tells → IsReported input counted_by old text) → (stop : Stop) → StopsPutting text out out' stop
+  unput_ends : (text : List ℕ) → new.file ≡ old.file → (IsTrue old.tells → IsReported input counted_by old text) → (stop : Stop) → StopsPutting text out out' stop
       → ReportEnds input counted_by old new out out' (Err stop)
   unput_ends text files made (WriteFault name) stops = (files, (stops.0.0, stops.0.1), λ tells. (text, made tells, stops.1))
   unput_ends text files made (Refused file problem) stops = absurd stops
@@ -50,6 +50,15 @@ module _ (input counted_by : List ℕ) (old new : HostState) (out out' : SinkSta
   unput_ends text files made (No reason) stops = absurd stops
   unput_ends text files made (Trapped trap) stops = absurd stops
   unput_ends text files made (StepLimit steps) stops = absurd stops
+
+  -- the report stood whole, and was put or not
+  pub put_ends : (text : List ℕ) → new.file ≡ old.file → (IsTrue old.tells → IsReported input counted_by old text) → (ending : Ending)
+      → IfOk ending (λ done. done ≡ Written) → IfOk ending (λ done. HasPut text out out') → IfErr ending (StopsPutting text out out')
+      → ReportEnds input counted_by old new out out' ending
+  put_ends text files made (Ok Written) written put stops = (files, λ tells. (text, made tells, put))
+  put_ends text files made (Ok Checked) written put stops = absurd (cc)
+  put_ends text files made (Ok (Returned value)) written put stops = absurd (cc)
+  put_ends text files made (Err stop) written put stops = unput_ends text files made stop stops
 
 -- ---- how `self` ends
 
@@ -64,8 +73,8 @@ module _ (n : ℕ) (out out' : SinkState) where
   unsummed_ends (Trapped trap) stops still = absurd stops
   unsummed_ends (StepLimit steps) stops still = absurd stops
 
-  pub unput_summary_ends : (text : List ℕ) → IsSummarised n text → (stop : Stop) → StopsPutting text out out' stop → ItselfEnds n out out' (Err stop)
-  unput_summary_ends text made (WriteFault name) stops = ((stops.0.0, stops.0.1), text, made, stops.1)
+  unput_summary_ends : (text : List ℕ) → IsSummarised n text → (stop : Stop) → StopsPutting text out out' stop → ItselfEnds n out out' (Err stop)
+  unput_summary_ends text made (WriteFault name) stops = ((stops.0.0, stops.0.1), (text, made, stops.1))
   unput_summary_ends text made (Refused file problem) stops = absurd stops
   unput_summary_ends text made (ReadFault name) stops = absurd stops
   unput_summary_ends text made OutOfMemory stops = absurd stops
@@ -73,6 +82,14 @@ module _ (n : ℕ) (out out' : SinkState) where
   unput_summary_ends text made (No reason) stops = absurd stops
   unput_summary_ends text made (Trapped trap) stops = absurd stops
   unput_summary_ends text made (StepLimit steps) stops = absurd stops
+
+  -- the summary stood whole, and was put or not
+  pub put_summary_ends : (text : List ℕ) → IsSummarised n text → (ending : Ending)
+      → IfOk ending (λ done. done ≡ Written) → IfOk ending (λ done. HasPut text out out') → IfErr ending (StopsPutting text out out') → ItselfEnds n out out' ending
+  put_summary_ends text made (Ok Written) written put stops = (text, made, put)
+  put_summary_ends text made (Ok Checked) written put stops = absurd (cc)
+  put_summary_ends text made (Ok (Returned value)) written put stops = absurd (cc)
+  put_summary_ends text made (Err stop) written put stops = unput_summary_ends text made stop stops
 
 -- ---- what an ending says
 
@@ -188,7 +205,7 @@ module _ (n : ℕ) (out out' : SinkState) where
   itself_not_done once (Ok (Returned value)) ends grown = absurd ends
   itself_not_done once (Ok Checked) ends grown = absurd ends
   itself_not_done once (Err (Refused file told)) ends grown = inl refl
-  itself_not_done once (Err (WriteFault name)) ends grown = absurd (summed_not_grown once n ends.1 ends.2 grown)
+  itself_not_done once (Err (WriteFault name)) ends grown = absurd (summed_not_grown once n ends.1.0 ends.1.1 grown)
   itself_not_done once (Err OutOfMemory) ends grown = inr (inr refl)
   itself_not_done once (Err (ReadFault name)) ends grown = absurd ends
   itself_not_done once (Err Usage) ends grown = absurd ends
@@ -201,7 +218,7 @@ module _ (n : ℕ) (out out' : SinkState) where
   itself_moved (Ok (Returned value)) ends = absurd ends
   itself_moved (Ok Checked) ends = absurd ends
   itself_moved (Err (Refused file told)) ends = inl ends.0
-  itself_moved (Err (WriteFault name)) ends = inr (ends.1, ends.2, ends.3)
+  itself_moved (Err (WriteFault name)) ends = inr ends.1
   itself_moved (Err OutOfMemory) ends = inl ends
   itself_moved (Err (ReadFault name)) ends = absurd ends
   itself_moved (Err Usage) ends = absurd ends

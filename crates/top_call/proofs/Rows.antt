@@ -9,6 +9,8 @@ use Rattle.ir_reader.specs.Reading.{HasOneAnswer}
 use Rattle.profile.specs.Reading as profile
 use Rattle.call_lines.specs.declared.ending.Done.{Done}
 use Rattle.call_lines.specs.declared.ending.Done.TheVariants.{Written, Checked, Returned}
+use Rattle.call_lines.specs.declared.ending.Problem.{Problem}
+use Rattle.call_lines.specs.declared.ending.Stop.{Stop}
 use Rattle.call_lines.specs.declared.ending.Stop.TheVariants.{Usage, Refused, ReadFault, WriteFault, OutOfMemory, No, Trapped, StepLimit}
 use Rattle.call_lines.specs.Ending.{Ending, status_of}
 use Rattle.top_call.specs.Row.{Row, Print, Run, Opt, Check, Report, Itself}
@@ -127,12 +129,12 @@ module _ (one : (bytes : List ℕ) → HasOneAnswer bytes) (old new : World) (en
     where
       by : (new.out ≡ old.out) ⊎ ((text : List ℕ) × IsReported input counted_by old.host text × HasPutPart text old.out new.out) → HasMoved (Some (Report input counted_by)) old new
       by (inl still) = inl (record { input = ends.1; out = still })
-      by (inr put) = inr (ends.1, put.0, put.1, put.2)
+      by (inr put) = inr (ends.1, put)
   moved one_profile (Some (Itself n)) ends tells = by (itself_moved n old.out new.out ending ends.0)
     where
       by : (new.out ≡ old.out) ⊎ ((text : List ℕ) × IsSummarised n text × HasPutPart text old.out new.out) → HasMoved (Some (Itself n)) old new
       by (inl still) = inl (record { input = ends.1; out = still })
-      by (inr put) = inr (ends.1, put.0, put.1, put.2)
+      by (inr put) = inr (ends.1, put)
   moved one_profile (Some (Run limit input profile)) ends tells = run_moved one limit input profile old new ending ends tells
 
   run_by : (limit : ℕ) (input : List ℕ) (profile : Option (List ℕ)) (status : ℕ) → status ≡ status_of ending
@@ -205,10 +207,10 @@ module _ (old new : World) where
   done_so (Some (Check files)) Checked ends tells = (ends.0.1 tells, ends.0.0)
   done_so (Some (Check files)) Written ends tells = absurd ends.0
   done_so (Some (Check files)) (Returned value) ends tells = absurd ends.0
-  done_so (Some (Report input counted_by)) Written ends tells = let made = ends.0.1 tells in (ends.0.0, made.0, made.1, made.2)
+  done_so (Some (Report input counted_by)) Written ends tells = (ends.0.0, ends.0.1 tells)
   done_so (Some (Report input counted_by)) Checked ends tells = absurd ends.0
   done_so (Some (Report input counted_by)) (Returned value) ends tells = absurd ends.0
-  done_so (Some (Itself n)) Written ends tells = (ends.2, ends.0.0, ends.0.1, ends.0.2)
+  done_so (Some (Itself n)) Written ends tells = (ends.2, ends.0)
   done_so (Some (Itself n)) Checked ends tells = absurd ends.0
   done_so (Some (Itself n)) (Returned value) ends tells = absurd ends.0
 
@@ -265,6 +267,89 @@ module _ (old new : World) where
   pub partly : (row : Option Row) (ending : Ending) → Ends row old new ending → (status : ℕ) → status ≡ status_of ending → IsTrue old.host.tells → (status ≡ 4) ⊎ (status ≡ 5) → IsPartlyDone row old new
   partly row ending ends status is tells (inl four) = cut row ending ends tells (inl (sym is ∙ four))
   partly row ending ends status is tells (inr five) = cut row ending ends tells (inr (sym is ∙ five))
+
+  -- the file that is refused has the problem that is told
+  refused_so : (row : Option Row) (file : _) (problem : Problem) → Ends row old new (Err (Refused file problem)) → IsTrue old.host.tells → IsRefused row old.host
+  refused_so None file problem ends tells = absurd (let e = ap status_of ends.0 in omega (arith, e))
+  refused_so (Some (Print input output)) file problem ends tells = (problem, ends.0.2 tells)
+  refused_so (Some (Run limit input profile)) file problem ends tells = (problem, ends.3 tells)
+  refused_so (Some (Opt files)) file problem ends tells = (problem, (ends.0.2 tells).0)
+  refused_so (Some (Check files)) file problem ends tells = (problem, (ends.0.2 tells).0)
+  refused_so (Some (Report input counted_by)) file problem ends tells = (problem, (ends.0.0.3 tells).0)
+  refused_so (Some (Itself n)) file problem ends tells = ends.0.3
+
+  told_so : (row : Option Row) (ending : Ending) → Ends row old new ending → IsTrue old.host.tells → status_of ending ≡ 1 → IsRefused row old.host
+  told_so row (Err (Refused file problem)) ends tells e = refused_so row file problem ends tells
+  told_so row (Ok done) ends tells e = absurd (omega (arith, e))
+  told_so row (Err Usage) ends tells e = absurd (omega (arith, e))
+  told_so row (Err (ReadFault name)) ends tells e = absurd (omega (arith, e))
+  told_so row (Err (WriteFault name)) ends tells e = absurd (omega (arith, e))
+  told_so row (Err OutOfMemory) ends tells e = absurd (omega (arith, e))
+  told_so row (Err (No reason)) ends tells e = absurd (omega (arith, e))
+  told_so row (Err (Trapped trap)) ends tells e = absurd (omega (arith, e))
+  told_so row (Err (StepLimit steps)) ends tells e = absurd (omega (arith, e))
+
+  pub refused : (row : Option Row) (ending : Ending) → Ends row old new ending → (status : ℕ) → status ≡ status_of ending → IsTrue old.host.tells → status ≡ 1 → IsRefused row old.host
+  refused row ending ends status is tells one = told_so row ending ends tells (sym is ∙ one)
+
+  -- what stopped before anything was written changed no file
+  kept_so : (row : Option Row) (stop : Stop) → Ends row old new (Err stop) → ¬ ((status_of (Err stop) ≡ 4) ⊎ (status_of (Err stop) ≡ 5)) → new.host.file ≡ old.host.file
+  kept_so None stop ends not = ap (λ (w : World). w.host.file) ends.1
+  kept_so (Some (Itself n)) stop ends not = ap (λ (host : HostState). host.file) ends.2
+  kept_so (Some (Print input output)) Usage ends not = absurd ends.0
+  kept_so (Some (Print input output)) (Refused file problem) ends not = ends.0.1
+  kept_so (Some (Print input output)) (ReadFault name) ends not = ends.0.1
+  kept_so (Some (Print input output)) (No reason) ends not = absurd ends.0
+  kept_so (Some (Print input output)) (Trapped trap) ends not = absurd ends.0
+  kept_so (Some (Print input output)) (StepLimit steps) ends not = absurd ends.0
+  kept_so (Some (Print input output)) (WriteFault name) ends not = absurd (not (inl refl))
+  kept_so (Some (Print input output)) OutOfMemory ends not = absurd (not (inr refl))
+  kept_so (Some (Run limit input profile)) Usage ends not = absurd ends
+  kept_so (Some (Run limit input profile)) (Refused file problem) ends not = ends.1
+  kept_so (Some (Run limit input profile)) (ReadFault name) ends not = ends.0
+  kept_so (Some (Run limit input profile)) (No reason) ends not = absurd ends
+  kept_so (Some (Run limit input profile)) (Trapped trap) ends not = ends.0
+  kept_so (Some (Run limit input profile)) (StepLimit steps) ends not = ends.1
+  kept_so (Some (Run limit input profile)) (WriteFault name) ends not = absurd (not (inl refl))
+  kept_so (Some (Run limit input profile)) OutOfMemory ends not = absurd (not (inr refl))
+  kept_so (Some (Opt files)) Usage ends not = absurd ends.0
+  kept_so (Some (Opt files)) (Refused file problem) ends not = ends.0.1
+  kept_so (Some (Opt files)) (ReadFault name) ends not = ends.0.0
+  kept_so (Some (Opt files)) (No reason) ends not = absurd ends.0
+  kept_so (Some (Opt files)) (Trapped trap) ends not = absurd ends.0
+  kept_so (Some (Opt files)) (StepLimit steps) ends not = absurd ends.0
+  kept_so (Some (Opt files)) (WriteFault name) ends not = absurd (not (inl refl))
+  kept_so (Some (Opt files)) OutOfMemory ends not = absurd (not (inr refl))
+  kept_so (Some (Check files)) Usage ends not = absurd ends.0
+  kept_so (Some (Check files)) (Refused file problem) ends not = ends.0.1
+  kept_so (Some (Check files)) (ReadFault name) ends not = ends.0.0
+  kept_so (Some (Check files)) (No reason) ends not = ends.0.0
+  kept_so (Some (Check files)) (Trapped trap) ends not = absurd ends.0
+  kept_so (Some (Check files)) (StepLimit steps) ends not = absurd ends.0
+  kept_so (Some (Check files)) (WriteFault name) ends not = absurd (not (inl refl))
+  kept_so (Some (Check files)) OutOfMemory ends not = absurd (not (inr refl))
+  kept_so (Some (Report input counted_by)) Usage ends not = absurd ends.0
+  kept_so (Some (Report input counted_by)) (Refused file problem) ends not = ends.0.0.2
+  kept_so (Some (Report input counted_by)) (ReadFault name) ends not = ends.0.0.0
+  kept_so (Some (Report input counted_by)) (No reason) ends not = absurd ends.0
+  kept_so (Some (Report input counted_by)) (Trapped trap) ends not = absurd ends.0
+  kept_so (Some (Report input counted_by)) (StepLimit steps) ends not = absurd ends.0
+  kept_so (Some (Report input counted_by)) (WriteFault name) ends not = absurd (not (inl refl))
+  kept_so (Some (Report input counted_by)) OutOfMemory ends not = absurd (not (inr refl))
+
+  before_writing : (n : ℕ) → (n ≡ 1) ⊎ (n ≡ 2) ⊎ (n ≡ 3) ⊎ (n ≡ 6) ⊎ (n ≡ 7) ⊎ (n ≡ 8) → ¬ ((n ≡ 4) ⊎ (n ≡ 5))
+  before_writing n is (inl four) = absurd (grind (arith, is, four))
+  before_writing n is (inr five) = absurd (grind (arith, is, five))
+
+  not_done_yet : (n : ℕ) → (n ≡ 1) ⊎ (n ≡ 2) ⊎ (n ≡ 3) ⊎ (n ≡ 6) ⊎ (n ≡ 7) ⊎ (n ≡ 8) → ¬ (n ≡ 0)
+  not_done_yet n is zero = absurd (grind (arith, is, zero))
+
+  pub untouched : (row : Option Row) (ending : Ending) → Ends row old new ending → (status : ℕ) → status ≡ status_of ending
+      → (status ≡ 1) ⊎ (status ≡ 2) ⊎ (status ≡ 3) ⊎ (status ≡ 6) ⊎ (status ≡ 7) ⊎ (status ≡ 8) → new.host.file ≡ old.host.file
+  untouched row (Ok done) ends status is told = absurd (not_done_yet status told is)
+  untouched row (Err stop) ends status is told =
+      let Before : ℕ → Type 0 = λ n. ¬ ((n ≡ 4) ⊎ (n ≡ 5)) in
+      kept_so row stop ends (subst Before is (before_writing status told))
 
   -- the checker's no
   pub deny : (one : (bytes : List ℕ) → HasOneAnswer bytes) → OneCertificate → (one_profile : (m : Program) → IsWellFormed m → (bytes : List ℕ) → profile.HasOneAnswer m bytes) → (row : Option Row) (ending : Ending) → Ends row old new ending

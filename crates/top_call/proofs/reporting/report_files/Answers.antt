@@ -13,5 +13,5 @@ returns-in-Err-clause-ends g c =
       status_is = c.finish-in-Err.ensures.status;
       line = c.finish-in-Err.ensures.line;
       ends = unaccepted_ends c.args.names.input.now c.args.names.profile.now old new out out c.in-Err.stop
-      (module_unread c.args.names.input.now c.args.names.profile.now old new c.in-Err.stop c.in-Err.ensures.stops c.read_short.ensures.rest) refl;
+          (module_unread c.args.names.input.now c.args.names.profile.now old new c.in-Err.stop c.in-Err.ensures.stops c.read_short.ensures.rest) refl;
     }

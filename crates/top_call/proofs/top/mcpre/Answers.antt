@@ -1,5 +1,5 @@
 use Rattle.top_call.specs.Row.{row_of, texts}
-use Rattle.top_call.proofs.Rows.{not_done, complete, denied, deny, grown, traps, ends_nothing, untaken, silent, trapped, limited, done, moved, partly, usage}
+use Rattle.top_call.proofs.Rows.{not_done, complete, denied, deny, grown, traps, ends_nothing, untaken, silent, trapped, limited, done, moved, partly, refused, untouched, usage}
 use Rattle.top_call.proofs.top.mcpre.Goals as goal
 
 pub returns-clause-not_done : goal.returns-clause-not_done
@@ -46,3 +46,9 @@ returns-clause-usage g c = let e = c.answer.ensures.ends in usage _ _ (row_of (t
 
 pub returns-clause-moved : goal.returns-clause-moved
 returns-clause-moved g c = λ tells. let e = c.answer.ensures.ends in moved c.one_answer.ensures _ _ e.ending c.one_answer-3.ensures (row_of (texts c.args.words.now)) e.ends tells
+
+pub returns-clause-refused : goal.returns-clause-refused
+returns-clause-refused g c = λ tells one. let e = c.answer.ensures.ends in refused _ _ (row_of (texts c.args.words.now)) e.ending e.ends _ e.status_is tells one
+
+pub returns-clause-untouched : goal.returns-clause-untouched
+returns-clause-untouched g c = λ told. let e = c.answer.ensures.ends in untouched _ _ (row_of (texts c.args.words.now)) e.ending e.ends _ e.status_is told
