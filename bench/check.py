@@ -23,7 +23,7 @@ from typing import NamedTuple
 
 import measure
 import opt
-from measure import Bar, Figure, Outcome, Run, least
+from measure import Bar, Figure, Outcome, Run, growth_of, least
 
 MOST_MEMORY = 30.0
 
@@ -63,12 +63,8 @@ def run_both(program: Path, checked: Checked, count: int) -> None:
         checked.runs.append(run_check(program, checked.files))
 
 
-def growth_of(half: Checked, whole: Checked) -> float:
-    return whole.best().processor_seconds / half.best().processor_seconds
-
-
 def misses_bar(half: Checked | None, checked: Checked) -> bool:
-    return checked.share_of_opt() > 1 or (half is not None and growth_of(half, checked) > opt.MOST_GROWTH)
+    return checked.share_of_opt() > 1 or (half is not None and growth_of(half.runs, checked.runs) > opt.MOST_GROWTH)
 
 
 def measure_rounds(program: Path, folder: Path) -> dict[int, Checked]:
@@ -85,7 +81,7 @@ def measure_rounds(program: Path, folder: Path) -> dict[int, Checked]:
             if not misses_bar(half, checked):
                 break
             run_both(program, checked, 1)
-        growth = "" if half is None else f"{growth_of(half, checked):.2f}"
+        growth = "" if half is None else f"{growth_of(half.runs, checked.runs):.2f}"
         print(
             f"{files.title:<16}{checked.length:>11}{len(checked.runs):>6}{checked.best().processor_seconds:>9.3f}"
             f"{least(checked.opt_runs).processor_seconds:>9.3f}{checked.share_of_opt():>7.2f}"
@@ -105,7 +101,7 @@ def figures_of(found: dict[int, Checked]) -> list[Figure]:
             best.processor_seconds,
             f"{checked.share_of_opt():.2f} of mcpre opt, {checked.peak_of_byte():.1f} B/B",
             best.peak_bytes,
-            None if half is None else growth_of(half, checked),
+            None if half is None else growth_of(half.runs, checked.runs),
             None if half is None else half.files.title,
         ))
     return figures
@@ -115,16 +111,13 @@ def bars_of(found: dict[int, Checked]) -> list[Bar]:
     bars = []
     for size, checked in found.items():
         title = checked.files.title
-        share = checked.share_of_opt()
-        bars.append(Bar(share <= 1, f"{title}: at most the time of opt ({share:.2f} of it)"))
+        bars.append(measure.bar_of_share(title, checked.share_of_opt(), "opt"))
         half = found.get(size // 2)
         if half is not None:
-            growth = growth_of(half, checked)
-            bar = f"{title}: at most {opt.MOST_GROWTH} times the time of {half.files.title} ({growth:.2f})"
-            bars.append(Bar(growth <= opt.MOST_GROWTH, bar))
+            growth = growth_of(half.runs, checked.runs)
+            bars.append(measure.bar_of_growth(title, growth, opt.MOST_GROWTH, half.files.title))
         if checked.length >= opt.LEAST_TEXT_FOR_MEMORY:
-            peak = checked.peak_of_byte()
-            bars.append(Bar(peak <= MOST_MEMORY, f"{title}: at most {MOST_MEMORY:.0f} bytes of memory for a byte ({peak:.2f})"))
+            bars.append(measure.bar_of_memory(title, checked.peak_of_byte(), MOST_MEMORY))
     return bars
 
 

@@ -111,6 +111,26 @@ def least(runs: list[Run]) -> Run:
     return min(runs, key=lambda run: run.processor_seconds)
 
 
+def growth_of(half: list[Run], whole: list[Run]) -> float:
+    """How many times longer the runs on the whole took than those on its half."""
+    return least(whole).processor_seconds / least(half).processor_seconds
+
+
+def bar_of_share(title: str, share: float, beside: str) -> Bar:
+    """Tells whether it took no more time than the program beside it."""
+    return Bar(share <= 1, f"{title}: at most the time of {beside} ({share:.2f} of it)")
+
+
+def bar_of_growth(title: str, growth: float, most: float, half: str) -> Bar:
+    """Tells whether it took at most so many times the time of its half."""
+    return Bar(growth <= most, f"{title}: at most {most} times the time of {half} ({growth:.2f})")
+
+
+def bar_of_memory(title: str, peak_of_byte: float, most: float) -> Bar:
+    """Tells whether the peak of memory was at most so many bytes for each byte of what was given."""
+    return Bar(peak_of_byte <= most, f"{title}: at most {most:.0f} bytes of memory for a byte ({peak_of_byte:.2f})")
+
+
 def of_llvm(name: str, left_out: str) -> str | None:
     """The place of a program of LLVM. Where it isn't installed, it says so and what is left out."""
     place = shutil.which(name)

@@ -37,7 +37,7 @@ from pathlib import Path
 from typing import Callable, NamedTuple
 
 import measure
-from measure import Bar, Figure, Outcome, Run, give_up, least, run_once
+from measure import Bar, Figure, Outcome, Run, give_up, growth_of, least, run_once
 
 RUNS = 3
 MORE_RUNS = 12
@@ -274,15 +274,11 @@ def run_more(program: Path, opt: str | None, measured: Measured, count: int) -> 
 # ---- what is measured
 
 
-def growth_of(half: Measured, whole: Measured) -> float:
-    return whole.best().processor_seconds / half.best().processor_seconds
-
-
 def misses_bar(half: Measured | None, measured: Measured) -> bool:
     """Whether more runs may help."""
     share = measured.share_of_opt()
     is_slow = share is not None and share > 1
-    return is_slow or (half is not None and growth_of(half, measured) > MOST_GROWTH)
+    return is_slow or (half is not None and growth_of(half.runs, measured.runs) > MOST_GROWTH)
 
 
 def print_head() -> None:
@@ -296,7 +292,7 @@ def print_row(measured: Measured, size: int, half: Measured | None) -> None:
     run, share = measured.best(), measured.share_of_opt()
     opt_shown = "" if share is None else f"{least(measured.opt_runs).processor_seconds:.3f}"
     share_shown = "" if share is None else f"{share:.2f}"
-    growth_shown = "" if half is None else f"{growth_of(half, measured):.2f}"
+    growth_shown = "" if half is None else f"{growth_of(half.runs, measured.runs):.2f}"
     print(
         f"{measured.files.title:<20}{measured.files.length:>10}{len(measured.runs):>6}{run.processor_seconds:>9.3f}"
         f"{run.clock_seconds:>10.3f}{run.processor_seconds / size * 1e6:>9.1f}"
@@ -336,7 +332,7 @@ def figures_of(found: dict[int, Measured]) -> list[Figure]:
             best.processor_seconds,
             f"{best.processor_seconds / measured.files.pairs * 1e6:.2f} us/pair, {measured.peak_of_byte():.1f} B/B",
             best.peak_bytes,
-            None if half is None else growth_of(half, measured),
+            None if half is None else growth_of(half.runs, measured.runs),
             None if half is None else half.files.title,
             "opt -passes=mem2reg,gvn" if measured.opt_runs else None,
             least(measured.opt_runs).processor_seconds if measured.opt_runs else None,
@@ -349,18 +345,15 @@ def bars_of(found: dict[int, Measured]) -> list[Bar]:
     for measured in found.values():
         share = measured.share_of_opt()
         if share is not None:
-            bars.append(Bar(share <= 1, f"{measured.files.title}: at most the time of opt-19 ({share:.2f} of it)"))
+            bars.append(measure.bar_of_share(measured.files.title, share, "opt-19"))
     for size, measured in found.items():
         half = found.get(size // 2)
         if half is not None:
-            growth = growth_of(half, measured)
-            bar = f"{measured.files.title}: at most {MOST_GROWTH} times the time of {half.files.title} ({growth:.2f})"
-            bars.append(Bar(growth <= MOST_GROWTH, bar))
+            growth = growth_of(half.runs, measured.runs)
+            bars.append(measure.bar_of_growth(measured.files.title, growth, MOST_GROWTH, half.files.title))
     for measured in found.values():
         if measured.files.length >= LEAST_TEXT_FOR_MEMORY:
-            peak = measured.peak_of_byte()
-            bar = f"{measured.files.title}: at most {MOST_MEMORY:.0f} bytes of memory for a byte ({peak:.2f})"
-            bars.append(Bar(peak <= MOST_MEMORY, bar))
+            bars.append(measure.bar_of_memory(measured.files.title, measured.peak_of_byte(), MOST_MEMORY))
     return bars
 
 

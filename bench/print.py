@@ -29,7 +29,7 @@ from pathlib import Path
 from typing import Callable, Iterator, NamedTuple
 
 import measure
-from measure import Bar, Figure, Outcome, Run, give_up, least, run_once
+from measure import Bar, Figure, Outcome, Run, give_up, growth_of, least, run_once
 
 RUNS = 3
 MORE_RUNS = 12
@@ -331,10 +331,6 @@ def is_as_fast(run: Run, opt_run: Run) -> bool:
     return run.processor_seconds <= opt_run.processor_seconds
 
 
-def growth_of(half_runs: list[Run], whole_runs: list[Run]) -> float:
-    return least(whole_runs).processor_seconds / least(half_runs).processor_seconds
-
-
 def measure_growth(program: Path, folder: Path, family: Family) -> tuple[Measured, float]:
     """Prints both lines of a family, and gives how many times longer the whole text takes than its half."""
     half = make_text(folder, family, family.whole_size // 2)
@@ -373,17 +369,13 @@ def bars_of(modules: list[Measured], families: list[tuple[Measured, float]]) -> 
     for text, run, opt_seconds in modules:
         if opt_seconds is None:
             continue
-        share = run.processor_seconds / opt_seconds
-        bars.append(Bar(share <= 1, f"{text.title}: at most the time of opt-19 ({share:.2f} of it)"))
+        bars.append(measure.bar_of_share(text.title, run.processor_seconds / opt_seconds, "opt-19"))
     for measured, growth in families:
-        bar = f"{measured.text.title}: at most {MOST_GROWTH} times the time of its half ({growth:.2f})"
-        bars.append(Bar(growth <= MOST_GROWTH, bar))
+        bars.append(measure.bar_of_growth(measured.text.title, growth, MOST_GROWTH, "its half"))
     for text, run, _ in modules + [measured for measured, _ in families]:
         if text.length < LEAST_TEXT_FOR_MEMORY:
             continue
-        peak = run.peak_bytes / text.length
-        bar = f"{text.title}: at most {MOST_MEMORY:.0f} bytes of memory for a byte ({peak:.2f})"
-        bars.append(Bar(peak <= MOST_MEMORY, bar))
+        bars.append(measure.bar_of_memory(text.title, run.peak_bytes / text.length, MOST_MEMORY))
     return bars
 
 

@@ -11,8 +11,9 @@ is shown to compare. What `self` and `report` put is compared with what the roun
 - Twice the rounds take at most 2.3 times the time.
 
 Of several runs the one that used the least processor time counts, with more runs where the bar is missed by the first
-ones. A peak of memory is never shown below this script's own, some 30 MiB. The status is 0 where no bar is missed, 1 where one is, and 2 where something could not be measured. The files are
-made in a temporary folder, which is removed. Linux alone.
+ones. A peak of memory is never shown below this script's own, some 30 MiB. The status is 0 where no bar is missed, 1
+where one is, and 2 where something could not be measured. The files are made in a temporary folder, which is removed.
+Linux alone.
 """
 
 import tempfile
@@ -22,7 +23,7 @@ from typing import Callable, NamedTuple
 import measure
 import opt
 import print as printing
-from measure import Bar, Figure, Outcome, Run, give_up, least
+from measure import Bar, Figure, Outcome, Run, give_up, growth_of, least
 
 RUNS = 3
 MORE_RUNS = 12
@@ -135,14 +136,10 @@ def run_more(program: Path, llvm: str | None, folder: Path, measured: Measured, 
             measured.opt_runs.append(measure.run_once(words, folder / "errors"))
 
 
-def growth_of(half: Measured, whole: Measured) -> float:
-    return whole.seconds() / half.seconds()
-
-
 def print_row(measured: Measured, half: Measured | None) -> None:
     best = least(measured.runs)
     opt_shown = f"{least(measured.opt_runs).processor_seconds:.3f}" if measured.opt_runs else ""
-    growth_shown = "" if half is None else f"{growth_of(half, measured):.2f}"
+    growth_shown = "" if half is None else f"{growth_of(half.runs, measured.runs):.2f}"
     print(
         f"{measured.title():<24}{len(measured.runs):>6}{best.processor_seconds:>9.3f}{best.clock_seconds:>10.3f}"
         f"{best.processor_seconds / measured.given.rounds * 1e6:>10.1f}{best.peak_bytes / 2**20:>10.1f}{opt_shown:>9}"
@@ -159,7 +156,7 @@ def measure_command(program: Path, llvm: str | None, folder: Path, command: Comm
         half = found.get(rounds // 2)
         run_more(program, llvm, folder, measured, RUNS)
         for _ in range(MORE_RUNS):
-            if half is None or growth_of(half, measured) <= MOST_GROWTH:
+            if half is None or growth_of(half.runs, measured.runs) <= MOST_GROWTH:
                 break
             run_more(program, llvm, folder, half, 1)
             run_more(program, llvm, folder, measured, 1)
@@ -177,7 +174,7 @@ def figure_of(measured: Measured, half: Measured | None) -> Figure:
         measured.seconds(),
         f"{measured.seconds() / measured.given.rounds * 1e6:.1f} us/round",
         least(measured.runs).peak_bytes,
-        None if half is None else growth_of(half, measured),
+        None if half is None else growth_of(half.runs, measured.runs),
         None if half is None else f"{half.given.rounds} rounds",
         "opt -passes=mem2reg,gvn" if measured.opt_runs else None,
         least(measured.opt_runs).processor_seconds if measured.opt_runs else None,
@@ -185,9 +182,8 @@ def figure_of(measured: Measured, half: Measured | None) -> Figure:
 
 
 def bar_of(measured: Measured, half: Measured) -> Bar:
-    growth = growth_of(half, measured)
-    text = f"{measured.title()}: at most {MOST_GROWTH} times the time of {half.given.rounds} rounds ({growth:.2f})"
-    return Bar(growth <= MOST_GROWTH, text)
+    growth = growth_of(half.runs, measured.runs)
+    return measure.bar_of_growth(measured.title(), growth, MOST_GROWTH, f"{half.given.rounds} rounds")
 
 
 def measure_all(program: Path) -> Outcome:
