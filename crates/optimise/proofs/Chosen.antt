@@ -86,6 +86,7 @@ chosen_in m f counts p t entries placements are of_module table chosen named few
     few = few;
     each = λ x entry there. (chosen.each x entry there).good;
   };
+  written = λ x entry there. (chosen.each x entry there).written;
   within = all_within f p t counts (length t.exprs) entries chosen;
 }
 

@@ -17,7 +17,7 @@ use Rattle.certificate.specs.Limits.{EntryIsWithin}
 use Rattle.certificate.specs.declared.types.Entry.{Entry}
 use Rattle.certified.specs.Certified.{EachGood}
 use Rattle.optimise.specs.declared.choosing.Chosen.{Chosen}
-use Rattle.optimise.specs.Optimised.{EachChosen, IsUnoptimised}
+use Rattle.optimise.specs.Optimised.{EachChosen, EachWritten, IsUnoptimised}
 use Rattle.optimise.specs.Placing.{AreCountsOf, ChosenSoFar, IsChosenIn, IsUnplaced}
 use Rattle.optimise.specs.declared.error.OptimiseError.{OptimiseError}
 use Rattle.optimise.specs.declared.error.OptimiseError.TheVariants.{TooMany, NoMemory}
@@ -140,6 +140,19 @@ module _ (m : Program) (counts : List FnCounts) (chosen : List Chosen) (are : Ch
           good = has.holds.good;
         };
   }
+
+  pub each_written : EachWritten m counts (record { functions = entries_of chosen }) (placed_of chosen)
+  each_written k f there d =
+      let has = are.each k f (slice_get_within m.functions k f there) there d in
+      record {
+        own = has.own;
+        counted = has.counted;
+        entries = has.chosen_here.entries;
+        listed = slice_get-map (λ (c : Chosen). c.entries) chosen (defined_before m.functions k) ∙ ap (option_map (λ (c : Chosen). c.entries)) has.there;
+        placed_here = has.chosen_here.placed;
+        there = slice_get-map (λ (c : Chosen). c.placed) chosen (defined_before m.functions k) ∙ ap (option_map (λ (c : Chosen). c.placed)) has.there;
+        written = has.holds.written;
+      }
 
 -- the numbers of the entries are small
 pub all_small : (chosen : List Chosen) → AllByRecursion (λ (c : Chosen). AllByRecursion EntryIsWithin c.entries) chosen → AllByRecursion (AllByRecursion EntryIsWithin) (entries_of chosen)

@@ -17,17 +17,19 @@ use Rattle.placement.proofs.GraphLemmas.{arcs_length}
 use Rattle.flow_net.specs.declared.Arc.{Arc}
 use Rattle.flow_net.specs.declared.Net.{Net}
 use Rattle.flow_net.specs.declared.Flow.{Flow}
-use Rattle.flow_net.specs.Network.{IsValid, IsWithin}
-use Rattle.latest_cut.specs.Cut.{rank_of}
+use Rattle.flow_net.specs.Network.{IsValid, IsWithin, ReachesSink, loads}
+use Rattle.latest_cut.specs.Cut.{AreRanks, IsSinkSide, rank_of, sink_side_of}
+use Rattle.latest_cut.specs.declared.Cut.{Cut}
 use Rattle.best_choice.specs.Best.{IsBestIn, IsPlacementOn}
-use Rattle.best_placement.specs.Laws.{Certifies}
-use Rattle.function_graphs.specs.Graphs.{graph_of}
+use Rattle.best_placement.specs.Laws.{Certifies, IsBlockNetwork}
+use Rattle.function_graphs.specs.Graphs.{graph_of, IsIn}
 use Rattle.mc_solve.specs.declared.Solved.{Solved}
-use Rattle.mc_solve.specs.Solved.{IsShown}
+use Rattle.mc_solve.specs.Solved.{IsShown, IsSolved}
 use Rattle.certificate.specs.Limits.{AllBelow}
 use Rattle.certificate.specs.declared.types.Entry.{Entry}
 use Rattle.certified.specs.Entries.{rank_in}
 use Rattle.optimise.specs.Choice.{IsBestEntry, IsChosenEntry, IsLazilyPlaced, IsLazyEntry}
+use Rattle.optimise.specs.Written.{TellsDistances}
 
 -- ---- numbers
 
@@ -57,6 +59,23 @@ ranks_counted [] inner split two = absurd (omega (arith, two))
 ranks_counted (a ∷ []) inner split two = absurd (omega (arith, two))
 ranks_counted (a ∷ b ∷ rest) inner split two = let l = ap (λ (l : List ℕ). length l) split in omega (arith, l)
 
+-- no walk without an arc leads to the sink but from itself
+away : (ls : List (Arc × ℕ)) (n v : ℕ) → 2 ≤ v → ReachesSink ls n v → 0 < n
+away ls zero v inner is = absurd (omega (arith, inner, is))
+away ls (suc n) v inner is = omega arith
+
+-- the ranks of a cut are the distances to the sink
+pub distances : (net : Net) (flow : Flow) (cut : Cut) → IsSinkSide net.nodes (loads net flow) cut → AreRanks net.nodes (loads net flow) cut → TellsDistances net flow (rank_of cut)
+distances net flow cut side ranks = record {
+  found = λ n v inner is. away (loads net flow) (rank_of cut v) v inner (ranks.walk v ((side.exact v).1 (n, is)));
+  way = λ v above. by v above (sink_side_of cut v) refl;
+  fewest = ranks.fewest;
+}
+  where
+    by : (v : ℕ) → 0 < rank_of cut v → (b : Bool) → sink_side_of cut v ≡ b → ReachesSink (loads net flow) (rank_of cut v) v
+    by v above true e = ranks.walk v e
+    by v above false e = absurd (omega (arith, above, ranks.others v e))
+
 -- ---- amounts
 
 -- no amount is above what all arcs together let through
@@ -85,7 +104,7 @@ module _ (f : Function) (p : Points) (t : Kept) (x : ℕ) (are : ArePoints f p) 
   pub lazy_entry : (placement : Placement) → IsLazilyPlaced f p t x placement → IsLazyEntry f p t x (record { placement = placement; flow = None; ranks = None })
   lazy_entry placement lazy =
       let numbers = small_placement (arcs_of p.edges) (length p.points) (IsEventOf f p t x) placement few_arcs few_points lazy.lazy.placement in
-      record { lazy = lazy; within = record { flow = tt; inserted = numbers.0; kept = numbers.1; ranks = tt } }
+      record { lazy = lazy; bare = record { flow = refl; ranks = refl }; within = record { flow = tt; inserted = numbers.0; kept = numbers.1; ranks = tt } }
 
   module _ (counts : FnCounts) where
     best_placed : (placement : Placement) → IsBestIn f p t x counts placement → IsPlacementOn (arcs_of p.edges) (length p.points) (IsEventOf f p t x) placement
@@ -93,8 +112,9 @@ module _ (f : Function) (p : Points) (t : Kept) (x : ℕ) (are : ArePoints f p) 
 
     -- what was solved, as an entry
     pub best_entry : (s : Solved) (inner : List ℕ) → take 2 s.cut.rank.items ++ inner ≡ s.cut.rank.items → AllBelow (2 ^ 32) inner → IsBestIn f p t x counts s.placement → IsShown f p t x counts s
+        → ((reached : ℕ → Bool) (event : ℕ → Event) (net : Net) → IsIn f p t x reached event → IsBlockNetwork (graph_of f p counts reached event) net → IsSolved f p counts reached event net s)
         → IsBestEntry f p t counts x (record { placement = s.placement; flow = Some s.flow.amounts.items; ranks = Some inner })
-    best_entry s inner split small best shown =
+    best_entry s inner split small best shown solved =
         let two : 2 ≤ length s.cut.rank.items = omega (arith, shown.ranks, shown.valid.nodes) in
         let same : rank_of s.cut ≡ rank_in inner = λ i v. ranks_read s.cut.rank.items inner split two shown.ends.0 shown.ends.1 v i in
         let numbers = small_placement (arcs_of p.edges) (length p.points) (IsEventOf f p t x) s.placement few_arcs few_points (best_placed s.placement best) in
@@ -109,6 +129,18 @@ module _ (f : Function) (p : Points) (t : Kept) (x : ℕ) (are : ArePoints f p) 
               has = record { flow_there = refl; ranks_there = refl; arcs = shown.within.len; nodes = ranks_counted s.cut.rank.items inner split two ∙ shown.ranks };
               certifies = subst (λ (rank : ℕ → ℕ). Certifies (graph_of f p counts reached event) shown.net s.flow rank s.placement) same (shown.certifies reached event is);
             };
+          };
+          distances = record {
+            net = shown.net;
+            network = shown.network;
+            has = λ reached event is.
+              let of = solved reached event shown.net is (shown.network reached event is) in
+              record {
+                flow = s.flow;
+                ranks = inner;
+                has = record { flow_there = refl; ranks_there = refl; arcs = shown.within.len; nodes = ranks_counted s.cut.rank.items inner split two ∙ shown.ranks };
+                tells = subst (λ (rank : ℕ → ℕ). TellsDistances shown.net s.flow rank) same (distances shown.net s.flow s.cut of.side of.ranks);
+              };
           };
           within = record { flow = small_amounts shown.net s.flow shown.valid shown.within; inserted = numbers.0; kept = numbers.1; ranks = small };
         }
@@ -125,6 +157,7 @@ module _ (f : Function) (p : Points) (t : Kept) (x : ℕ) (are : ArePoints f p) 
           record {
             chosen = record { expr = expr; there = there; best = λ e. is.best; lazy = λ traps. absurd (never (sym traps ∙ plain)) };
             good = record { listed = best.placement; correct = best.correct; certifies = λ e. is.certifies; safe = λ can. absurd (never (sym (can expr there) ∙ plain)) };
+            written = record { plain = λ e. is.distances; trapping = λ can. absurd (never (sym (can expr there) ∙ plain)) };
             within = is.within;
           }
 
@@ -132,5 +165,6 @@ module _ (f : Function) (p : Points) (t : Kept) (x : ℕ) (are : ArePoints f p) 
       chosen_lazy traps is = record {
         chosen = record { expr = expr; there = there; best = λ plain. absurd (never (sym traps ∙ plain)); lazy = λ e. is.lazy };
         good = record { listed = is.lazy.lazy.placement; correct = is.lazy.correct; certifies = λ plain. absurd (never (sym traps ∙ plain expr there)); safe = λ can. is.lazy.safe };
+        written = record { plain = λ plain. absurd (never (sym traps ∙ plain expr there)); trapping = λ can. is.bare };
         within = is.within;
       }

@@ -20,6 +20,7 @@ use Rattle.certificate.specs.declared.types.Entry.{Entry}
 use Rattle.certified.specs.Entries.{CertifiesIn, IsGood}
 use Rattle.certified.specs.Certified.{AreFew, insertions}
 use Rattle.transform.specs.declared.placed.Placed.{Placed}
+use Rattle.optimise.specs.Written.{HasDistancesIn, IsBare, IsWritten}
 
 -- the lazy placement, with ascending lists: it is correct and safe, on each settled path no safe correct placement
 -- computes less, and each that computes as few is live wherever it is
@@ -66,19 +67,22 @@ pub record IsCrowded (m : Program) (f : Function) (counts : FnCounts) : Type 0 w
 
 -- ---- entries
 
--- the best placement, with a flow and ranks that show it
+-- the best placement, with a flow and ranks that show it; the ranks are the distances to the sink
 pub record IsBestEntry (f : Function) (p : Points) (t : Kept) (counts : FnCounts) (x : ℕ) (entry : Entry) : Type 0 where
   pub best : IsBestIn f p t x counts entry.placement
   pub certifies : CertifiesIn f p t counts x entry
+  pub distances : HasDistancesIn f p t counts x entry
   pub within : EntryIsWithin entry
 
--- the lazy placement
+-- the lazy placement, and nothing else
 pub record IsLazyEntry (f : Function) (p : Points) (t : Kept) (x : ℕ) (entry : Entry) : Type 0 where
   pub lazy : IsLazilyPlaced f p t x entry.placement
+  pub bare : IsBare entry
   pub within : EntryIsWithin entry
 
 -- the placement that is chosen, with what shows it
 pub record IsChosenEntry (f : Function) (p : Points) (t : Kept) (counts : FnCounts) (x : ℕ) (entry : Entry) : Type 0 where
   pub chosen : IsChosen f p t counts x entry.placement
   pub good : IsGood f p t counts x entry
+  pub written : IsWritten f p t counts x entry
   pub within : EntryIsWithin entry

@@ -7,8 +7,10 @@ use Rattle.profile.specs.declared.counts.FnCounts.{FnCounts}
 use Rattle.transform.specs.Transformed.{IsTransformed, defined_before}
 use Rattle.transform.specs.declared.placed.Placed.{Placed}
 use Rattle.certificate.specs.declared.types.Certificate.{Certificate}
+use Rattle.certificate.specs.declared.types.Entry.{Entry}
 use Rattle.certified.specs.Certified.{EachGood}
 use Rattle.optimise.specs.Choice.{IsPlacedBy, IsCrowded}
+use Rattle.optimise.specs.Written.{AreWritten}
 use Rattle.optimise.specs.declared.error.OptimiseError.{OptimiseError}
 use Rattle.optimise.specs.declared.error.OptimiseError.TheVariants.{TooMany, NoMemory}
 
@@ -31,11 +33,26 @@ pub record IsOptimised (m : Program) (counts : List FnCounts) (m' : Program) : T
   pub are_chosen : EachChosen m counts placed
   pub transformed : IsTransformed m placed m'
 
+-- the entries of the function k in the certificate are written over its points, its table and its own counts
+pub record HasWritten (m : Program) (counts : List FnCounts) (certificate : Certificate) (placed : List Placed) (k : ℕ) (f : Function) : Type 0 where
+  pub own : FnCounts
+  pub counted : slice_get counts (defined_before m.functions k) ≡ Some own
+  pub entries : List Entry
+  pub listed : slice_get certificate.functions (defined_before m.functions k) ≡ Some entries
+  pub placed_here : Placed
+  pub there : slice_get placed (defined_before m.functions k) ≡ Some placed_here
+  pub written : AreWritten f placed_here.points placed_here.table own entries
+
+-- so are the entries of each function that has blocks
+abbrev pub EachWritten : Program → List FnCounts → Certificate → List Placed → Type 0
+EachWritten m counts certificate placed = (k : ℕ) (f : Function) → slice_get m.functions k ≡ Some f → is_defined f.blocks ≡ true → HasWritten m counts certificate placed k f
+
 -- m' is m with the placements applied that are chosen by these counts, and the certificate names them and shows that they are good
 pub record IsOptimisedBy (m : Program) (counts : List FnCounts) (certificate : Certificate) (m' : Program) : Type 0 where
   pub placed : List Placed
   pub are_chosen : EachChosen m counts placed
   pub each_good : EachGood m counts certificate placed
+  pub each_written : EachWritten m counts certificate placed
   pub transformed : IsTransformed m placed m'
 
 -- in some function of m the placements that are chosen by its counts insert at 2^28 edges or more

@@ -13,6 +13,7 @@ use Rattle.certificate.specs.declared.types.Entry.{Entry}
 use Rattle.certified.specs.Certified.{AreGood}
 use Rattle.transform.specs.Transformed.{defined_before}
 use Rattle.optimise.specs.Choice.{IsChosenEntry, IsCrowded, IsPlacedBy}
+use Rattle.optimise.specs.Written.{AreWritten}
 use Rattle.optimise.specs.declared.choosing.Chosen.{Chosen}
 use Rattle.optimise.specs.declared.error.OptimiseError.{OptimiseError}
 use Rattle.optimise.specs.declared.error.OptimiseError.TheVariants.{TooMany, NoMemory}
@@ -32,6 +33,7 @@ pub record AreChosenEntries (f : Function) (p : Points) (t : Kept) (counts : FnC
 pub record IsChosenIn (m : Program) (f : Function) (counts : FnCounts) (c : Chosen) : Type 0 where
   pub placed : IsPlacedBy m f counts c.placed
   pub good : AreGood m f counts c.entries c.placed
+  pub written : AreWritten f c.placed.points c.placed.table counts c.entries
   pub within : AllByRecursion EntryIsWithin c.entries
 
 -- why nothing is placed in a function

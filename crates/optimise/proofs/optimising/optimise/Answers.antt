@@ -1,6 +1,6 @@
 use Rattle.std.proofs.Common.{length}
 use Rattle.optimise.specs.Placing.{ChosenSoFar}
-use Rattle.optimise.proofs.Growing.{all_small, each_chosen, each_good}
+use Rattle.optimise.proofs.Growing.{all_small, each_chosen, each_good, each_written}
 use Rattle.optimise.proofs.Sound.{MoveLaws, each_sound}
 use Rattle.optimise.proofs.optimising.optimise.Goals as goal
 
@@ -23,6 +23,7 @@ returns-clause-optimised c =
       placed = c.in_ok-parts.parts.placed.items;
       are_chosen = rw c.in_ok-parts.ensures.placed (each_chosen m counts chosen all);
       each_good = rw (c.from.ensures, c.in_ok-parts.ensures.placed, c.in_ok-parts.ensures.functions) (each_good m counts chosen all);
+      each_written = rw (c.from.ensures, c.in_ok-parts.ensures.placed, c.in_ok-parts.ensures.functions) (each_written m counts chosen all);
       transformed = rw c.deref.ensures.value at c.in_ok-module.ensures;
     }
 
