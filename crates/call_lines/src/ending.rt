@@ -34,7 +34,8 @@ pub enum Problem<'a> {
         /// The text's bytes at that place, at most 40 of them.
         excerpt: &'a [u8],
     },
-    /// The text for the file that is written would have more than 2^26 bytes, or a function in it more than it may.
+    /// The text for the file that is written would have more than 2^26 bytes, or a function in it more than it may, or in
+    /// some function the chosen placements insert at 2^28 edges or more.
     Grown,
     /// It has no defined function `main` without parameters.
     NoMain,

@@ -134,13 +134,13 @@ module _ (f : Function) (p : Points) (t : Kept) (x : ℕ) (are : ArePoints f p) 
             net = shown.net;
             network = shown.network;
             has = λ reached event is.
-              let of = solved reached event shown.net is (shown.network reached event is) in
-              record {
-                flow = s.flow;
-                ranks = inner;
-                has = record { flow_there = refl; ranks_there = refl; arcs = shown.within.len; nodes = ranks_counted s.cut.rank.items inner split two ∙ shown.ranks };
-                tells = subst (λ (rank : ℕ → ℕ). TellsDistances shown.net s.flow rank) same (distances shown.net s.flow s.cut of.side of.ranks);
-              };
+                let of = solved reached event shown.net is (shown.network reached event is) in
+                record {
+                  flow = s.flow;
+                  ranks = inner;
+                  has = record { flow_there = refl; ranks_there = refl; arcs = shown.within.len; nodes = ranks_counted s.cut.rank.items inner split two ∙ shown.ranks };
+                  tells = subst (λ (rank : ℕ → ℕ). TellsDistances shown.net s.flow rank) same (distances shown.net s.flow s.cut of.side of.ranks);
+                };
           };
           within = record { flow = small_amounts shown.net s.flow shown.valid shown.within; inserted = numbers.0; kept = numbers.1; ranks = small };
         }

@@ -56,11 +56,12 @@ fn answer<H: Host, I: Source, O: Sink, E: Sink>(
 /// and `out`, and where it returns writes its profile to PROF, unless PROF is `-`. `opt IN PROF OUT CERT` optimises the
 /// module of IN by its profile PROF, and writes the new module to OUT and then its certificate to CERT; OUT and CERT
 /// differ. `check IN PROF OUT CERT` says whether OUT is the module of IN with the placements of CERT applied, and
-/// CERT shows that each of them is what it must be. `report IN PROF` puts on `out` what each expression of IN's module
-/// costs by its profile PROF, before it is optimised and after. `self N` makes a module of N diamonds with its profile,
-/// from 1 to 10000, optimises it in memory, and puts on `out` what that saves. The host lets the row read and write these
-/// files, and is asked for no other. Nothing is written to a file, and no report is put, before each text stands whole. IN is read, and its problems are told, before PROF, PROF before OUT, and OUT before
-/// CERT.
+/// CERT shows that each of them is the best one, or is correct and safe where its expression can trap. `report IN PROF`
+/// puts on `out` what each expression of IN's module costs by its profile PROF, before it is optimised and after. `self N`
+/// makes a module of N diamonds with its profile, from 1 to 10000, optimises it in memory, and puts on `out` what that
+/// saves. The host lets the row read and write these files, and is asked for no other. Nothing is written to a file, and no
+/// report is put, before each text stands whole. IN is read, and its problems are told, before PROF, PROF before OUT, and
+/// OUT before CERT.
 ///
 /// | Status | Comes | Line on `err` |
 /// |---|---|---|
@@ -80,7 +81,7 @@ fn answer<H: Host, I: Source, O: Sink, E: Sink>(
 /// | 1 | `check`: OUT has more than 2^26 bytes | `mcpre: OUT: E1 TooLong` |
 /// | 1 | `check`: CERT holds no certificate; PATH is the first wrong part | `mcpre: CERT: C1 Form PATH` |
 /// | 1 | `print`: the text has more than 2^26 bytes | `mcpre: IN: E17 Grown` |
-/// | 1 | `opt`: the new text has, or a function of the new module has more than it may, or the best placements insert at 2^28 edges of a function or more | `mcpre: IN: E17 Grown` |
+/// | 1 | `opt`: the new text has, or a function of the new module has more than it may, or the chosen placements insert at 2^28 edges of a function or more | `mcpre: IN: E17 Grown` |
 /// | 1 | `self`: the same of its new module | `mcpre: self: E17 Grown` |
 /// | 1 | `run`: there is no defined `main` without parameters | `mcpre: IN: E18 NoMain` |
 /// | 2 | the words fit no row | `mcpre: usage` |
