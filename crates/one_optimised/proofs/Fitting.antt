@@ -1,5 +1,5 @@
 -- The chosen placements can be tallied.
-use Rattle.std.proofs.Common.{◌≡◌, ℕ, Bool, true, false, List, length, refl}
+use Rattle.std.proofs.Common.{◌≡◌, ℕ, Bool, true, false, List, refl}
 use Rattle.ir_types.specs.Program.{Program}
 use Rattle.ir_types.specs.declared.syntax.Function.{Function}
 use Rattle.point_graph.specs.Numbers.{ArePoints}

@@ -1,5 +1,5 @@
 -- What an ending of `check` says of its files.
-use Rattle.std.proofs.Common.{◌≡◌, ◌⊎◌, ℕ, List, length, Option, Some, None, Ok, Err, IsTrue, inl, inr, refl, sym, ap, subst, ◌∙◌, arith}
+use Rattle.std.proofs.Common.{◌≡◌, ◌⊎◌, ℕ, List, length, Some, None, Ok, Err, IsTrue, inl, inr, refl, sym, ap, subst, ◌∙◌, arith}
 use Rattle.mc_host.specs.Faults.{Rose}
 use Rattle.mc_host.specs.Host.{HostState}
 use Rattle.ir_types.specs.Program.{Program}
@@ -19,11 +19,11 @@ use Rattle.call_lines.specs.declared.ending.Done.TheVariants.{Written, Checked, 
 use Rattle.call_lines.specs.declared.ending.Stop.TheVariants.{Usage, Refused, ReadFault, WriteFault, OutOfMemory, No, Trapped, StepLimit}
 use Rattle.call_lines.specs.Ending.{Ending, status_of}
 use Rattle.top_call.specs.Row.{OptFiles}
-use Rattle.top_call.specs.Print.{ReadsAs, HasProblem, text_limit}
-use Rattle.top_call.specs.Opt.{AreAccepted, IsOptDone}
-use Rattle.top_call.specs.Check.{AreChecked, CheckEnds, HasBadCertificate, HasCertificate, HasCheckProblem, HasText, IsAgreed, IsCheckDone, IsDenied, KeepsCheckRules, SaysYes}
+use Rattle.top_call.specs.Print.{ReadsAs, HasProblem}
+use Rattle.top_call.specs.Opt.{IsOptDone}
+use Rattle.top_call.specs.Check.{AreChecked, CheckEnds, HasBadCertificate, HasCertificate, HasCheckProblem, IsAgreed, IsCheckDone, IsDenied, KeepsCheckRules, SaysYes}
 use Rattle.top_call.proofs.Endings.{same_program}
-use Rattle.top_call.proofs.OptEndings.{carried, keeps_rules, no_problem, same_content}
+use Rattle.top_call.proofs.OptEndings.{carried, no_problem, same_content}
 
 -- a text holds one certificate at most, and then no part of it is wrong
 pub record OneCertificate : Type 0 where
@@ -131,11 +131,11 @@ module _ (one : (bytes : List ℕ) → HasOneAnswer bytes) (one_profile : (m : P
   check_deny new (Err (StepLimit steps)) ends tells denied = absurd ends
 
 -- what `opt` left is agreed
-pub agrees_with_opt : (files : OptFiles) (old new host : HostState) → IsOptDone files old new
-    → host.file files.input ≡ old.file files.input → host.file files.profile ≡ old.file files.profile
-    → host.file files.output ≡ new.file files.output → host.file files.certificate ≡ new.file files.certificate
-    → IsAgreed files host
-agrees_with_opt files old new host done input profile_file output_file certificate_file =
+pub agrees_with_opt : (files these : OptFiles) (old new host : HostState) → IsOptDone files old new
+    → host.file these.input ≡ old.file files.input → host.file these.profile ≡ old.file files.profile
+    → host.file these.output ≡ new.file files.output → host.file these.certificate ≡ new.file files.certificate
+    → IsAgreed these host
+agrees_with_opt files these old new host done input profile_file output_file certificate_file =
     let made = done.is_output.optimises in
     let reads = made.accepted.reads in
     let says = made.accepted.profile in

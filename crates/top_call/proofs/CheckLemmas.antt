@@ -1,5 +1,5 @@
 -- How `check` ends, by what stopped it.
-use Rattle.std.proofs.Common.{◌≡◌, ◌≤◌, ◌⊎◌, ℕ, List, length, Option, Some, Ok, Err, IsTrue, inl, inr, sym, ap, subst, ◌∙◌}
+use Rattle.std.proofs.Common.{◌≡◌, ◌≤◌, ℕ, List, length, Option, Some, Ok, Err, IsTrue, inl, inr, sym, ap, subst, ◌∙◌}
 use Rattle.mc_host.specs.Faults.{Rose}
 use Rattle.mc_host.specs.Host.{HostState, OnlyReads}
 use Rattle.mc_host.proofs.PutsLemmas.{rose_after}

@@ -1,5 +1,5 @@
 -- How `opt` ends, by what stopped it.
-use Rattle.std.proofs.Common.{◌≡◌, ◌≤◌, ◌⊎◌, ℕ, List, length, Option, Some, Ok, Err, IsTrue, inl, inr, refl, sym, ap, subst, ◌∙◌, arith}
+use Rattle.std.proofs.Common.{◌≡◌, ◌≤◌, ◌⊎◌, ℕ, List, length, Option, Some, Ok, Err, IsTrue, inl, inr, refl, sym, ap, subst, ◌∙◌}
 use Rattle.mc_host.specs.Faults.{Rose}
 use Rattle.mc_host.specs.Host.{HostState, OnlyReads, IsBeforeOrPart}
 use Rattle.std.specs.Prelude.{All}
@@ -19,7 +19,7 @@ use Rattle.profile.specs.Counts.{IsAccepted}
 use Rattle.profile.specs.declared.counts.FnCounts.{FnCounts}
 use Rattle.call_lines.specs.declared.ending.Problem.{Problem}
 use Rattle.call_lines.specs.declared.ending.Problem.TheVariants.{TooLong, Text, Grown, NoMain, LongProfile, BadProfile, LongOutput, BadCertificate}
-use Rattle.call_lines.specs.declared.ending.Done.TheVariants.{Written, Checked}
+use Rattle.call_lines.specs.declared.ending.Done.TheVariants.{Written}
 use Rattle.call_lines.specs.declared.ending.Stop.{Stop}
 use Rattle.call_lines.specs.declared.ending.Stop.TheVariants.{Usage, Refused, ReadFault, WriteFault, OutOfMemory, No, Trapped, StepLimit}
 use Rattle.top_call.specs.Row.{OptFiles}

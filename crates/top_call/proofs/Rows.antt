@@ -15,7 +15,7 @@ use Rattle.call_lines.specs.declared.ending.Stop.TheVariants.{Usage, Refused, Re
 use Rattle.call_lines.specs.Ending.{Ending, status_of}
 use Rattle.top_call.specs.Row.{Row, Print, Run, Opt, Check, Report, Itself}
 use Rattle.top_call.specs.Report.{HasPutPart, IsReported, IsSummarised}
-use Rattle.top_call.specs.World.{World, AreStill}
+use Rattle.top_call.specs.World.{World}
 use Rattle.top_call.specs.Top.{Ends, IsAccepted, IsRowDenied, IsTrapped, IsAtLimit, IsDone, IsPartlyDone, HasReadFault, HasWriteFault, IsQuiet, IsSilent, HasMoved, IsRefused, AreRead, IsTooLarge}
 use Rattle.checker.specs.declared.verdict.Reason.{Reason}
 use Rattle.top_call.proofs.CheckEndings.{OneCertificate, check_not_done, check_complete, check_deny}

@@ -1,5 +1,5 @@
 -- What is read of a module and its profile.
-use Rattle.std.specs.Prelude.{◌≡◌, ◌⊎◌, ◌<◌, ◌≤◌, ℕ, List, length, IsTrue, Some}
+use Rattle.std.specs.Prelude.{◌≡◌, ◌⊎◌, ◌≤◌, ℕ, List, length, IsTrue, Some}
 use Rattle.mc_host.specs.Faults.{Rose}
 use Rattle.mc_host.specs.Host.{HostState}
 use Rattle.ir_types.specs.Program.{Program}

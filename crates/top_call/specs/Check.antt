@@ -117,9 +117,10 @@ CheckEnds files old new (Err (ReadFault name)) =
 CheckEnds files old new (Err OutOfMemory) = new.file ≡ old.file
 CheckEnds files old new _ = ⊥
 
--- the checker says yes to what `opt` left: where a host holds the files that `opt` read and those that it wrote, they are agreed
+-- the checker says yes to what `opt` left: where a host holds in these files what `opt` read and what it wrote, they are agreed.
+-- They may have other names than the files of `opt`, which may have overwritten what it read
 abbrev pub AgreesWithOpt : Type 0
-AgreesWithOpt = (files : OptFiles) (old new host : HostState) → IsOptDone files old new
-    → host.file files.input ≡ old.file files.input → host.file files.profile ≡ old.file files.profile
-    → host.file files.output ≡ new.file files.output → host.file files.certificate ≡ new.file files.certificate
-    → IsAgreed files host
+AgreesWithOpt = (files these : OptFiles) (old new host : HostState) → IsOptDone files old new
+    → host.file these.input ≡ old.file files.input → host.file these.profile ≡ old.file files.profile
+    → host.file these.output ≡ new.file files.output → host.file these.certificate ≡ new.file files.certificate
+    → IsAgreed these host

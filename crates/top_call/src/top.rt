@@ -1,6 +1,7 @@
 //! The top call.
 ghost use Rattle.std.specs.Prelude.{◌≡◌, ◌⊎◌, ◌↔◌, ◌≤◌, ℕ, List, IsTrue, IsNone};
 ghost use Rattle.top_call.specs.Row.{row_of, texts};
+ghost use Rattle.mc_host.specs.Host.{KeepsRights};
 ghost use Rattle.call_lines.specs.Lines.{Answers};
 ghost use Rattle.top_call.specs.World.{world};
 ghost use Rattle.top_call.specs.Check.{AgreesWithOpt};
@@ -32,6 +33,9 @@ fn answer<H: Host, I: Source, O: Sink, E: Sink>(
     ensures ends { Answers (E.state err.old) (E.state err.new) result (Ends (row_of (texts words.now))
         (world (H.state host.old) (I.state input.old) (O.state out.old)) (world (H.state host.new) (I.state input.new) (O.state out.new))) }
     ensures files { (name : List ℕ) → ¬ (Writes (row_of (texts words.now)) name) → (H.state host.new).file name ≡ (H.state host.old).file name }
+    ensures rights { KeepsRights (H.state host.old) (H.state host.new) }
+    ensures read_count { (H.state host.old).read_faults ≤ (H.state host.new).read_faults }
+    ensures write_count { (H.state host.old).write_faults ≤ (H.state host.new).write_faults }
 {
     match command_of(words) {
         None => finish(err, Err(Stop::Usage)),
@@ -148,8 +152,11 @@ pub fn mcpre<H: Host, I: Source, O: Sink, E: Sink>(
     ensures untouched { (result ≡ 1) ⊎ (result ≡ 2) ⊎ (result ≡ 3) ⊎ (result ≡ 6) ⊎ (result ≡ 7) ⊎ (result ≡ 8) → (H.state host.new).file ≡ (H.state host.old).file }
     ensures partly { IsTrue (H.state host.old).tells → (result ≡ 4) ⊎ (result ≡ 5) → IsPartlyDone (row_of (texts words.now)) (world (H.state host.old) (I.state input.old) (O.state out.old)) (world (H.state host.new) (I.state input.new) (O.state out.new)) }
 
-    // No other file changes.
+    // No other file changes. What may be read and written stays, and so does whether the host tells; no count falls.
     ensures files { (name : List ℕ) → ¬ (Writes (row_of (texts words.now)) name) → (H.state host.new).file name ≡ (H.state host.old).file name }
+    ensures rights { KeepsRights (H.state host.old) (H.state host.new) }
+    ensures read_count { (H.state host.old).read_faults ≤ (H.state host.new).read_faults }
+    ensures write_count { (H.state host.old).write_faults ≤ (H.state host.new).write_faults }
 
     // What is taken and put: nothing where the row is quiet, or silent, else what the run so far takes and puts, or a first part of the report.
     ensures input { IsQuiet (row_of (texts words.now)) (world (H.state host.old) (I.state input.old) (O.state out.old)) (world (H.state host.new) (I.state input.new) (O.state out.new)) result → I.state input.new ≡ I.state input.old }
@@ -163,7 +170,8 @@ pub fn mcpre<H: Host, I: Source, O: Sink, E: Sink>(
     answer(alloc, words, host, input, out, err)
 }
 
-/// The checker says yes to what `opt` left, where it is given the files that `opt` read and those that it wrote.
+/// The checker says yes to what `opt` left, where it is given the bytes that `opt` read and those that it wrote, in files of
+/// whatever names.
 pub fn check_agrees_with_opt()
     ensures { AgreesWithOpt }
 {}

@@ -1,7 +1,6 @@
 use Rattle.std.proofs.Common.{ℕ, List, sym, subst}
 use Rattle.ir_types.specs.Program.{Program}
 use Rattle.profile.specs.Reading.{Reads}
-use Rattle.profile.specs.Text.{prof_text}
 use Rattle.workload.specs.Workload.{workload_program, workload_counts}
 use Rattle.top_call.proofs.itself.counts_of.Goals as goal
 
